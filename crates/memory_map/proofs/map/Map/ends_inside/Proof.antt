@@ -1,0 +1,66 @@
+-- `memory_map::map::Map::ends_inside` meets its contract: the loop's invariant: the regions from `i` on decide what all do.
+use mathlib.Core.Path.{_≡_, refl, sym, _∙_}
+use Prim.Native.Nat.{_-_}
+use native.Mathlib.Omega.{arith}
+use borrow.Author.Tests.{not-true, not-false}
+use lib.ListN.{drop}
+use borrow.Author.Needs.{needs}
+use Rattle.memory_map.proofs.Loops.{every-fails, every-goes, every-end}
+use Rattle.memory_map.specs.Region.{endsInside}
+use Rattle.words.specs.Choice.{every}
+use Rattle.memory_map.specs.Map.{regionsOf}
+use Rattle.memory_map.proofs.map.Map.ends_inside.Statement.{statement}
+use Rattle.memory_map.proofs.map.Map.ends_inside.Tie as tie
+
+abbrev Inv-loop : tie.InvT-loop
+Inv-loop size self n i₀ i = every (endsInside size) (drop i (regionsOf self)) ≡ every (endsInside size) (regionsOf self)
+
+abbrev μ-loop : tie.MeasureT-loop
+μ-loop size self n i₀ i = n - i
+
+used-requires : tie.Need-used-requires Inv-loop μ-loop
+used-requires c κs = search needs
+
+loop-holds : tie.Need-loop-holds Inv-loop μ-loop
+loop-holds c = refl
+
+mul-region : tie.Need-mul-region Inv-loop μ-loop
+mul-region c = omega arith
+
+element-copy-out-region : tie.Need-element-copy-out-region Inv-loop μ-loop
+element-copy-out-region c = omega arith
+
+ends-inside-requires : tie.Need-ends-inside-requires Inv-loop μ-loop
+ends-inside-requires c κs = search needs
+
+returns : tie.Need-returns Inv-loop μ-loop
+returns c = let s = c .before .before .before .before in let x = s .before .before .args in sym (every-fails (x .t1) (s .loop .i) (endsInside (x .size)) (omega arith) (sym (c .before .ends-inside .ensures) ∙ not-true _ (c .if1 .taken))) ∙ s .loop .inv
+
+add-i : tie.Need-add-i Inv-loop μ-loop
+add-i c = omega arith
+
+loop-less : tie.Need-loop-less Inv-loop μ-loop
+loop-less c = omega arith
+
+loop-again : tie.Need-loop-again Inv-loop μ-loop
+loop-again c = let s = c .before .before .before .before in let x = s .before .before .args in sym (every-goes (x .t1) (s .loop .i) (endsInside (x .size)) (omega arith) (sym (c .before .ends-inside .ensures) ∙ not-false _ (c .if1 .left))) ∙ s .loop .inv
+
+returns-2 : tie.Need-returns-2 Inv-loop μ-loop
+returns-2 c = let s = c .before in let x = s .before .before .args in sym (every-end (x .t1) (s .loop .i) (endsInside (x .size)) (omega arith)) ∙ s .loop .inv
+
+pub ends-inside-spec : {M : Type 1} → statement M
+ends-inside-spec =
+    tie.close
+    (tie.spec
+    Inv-loop
+    μ-loop
+    used-requires
+    loop-holds
+    mul-region
+    element-copy-out-region
+    ends-inside-requires
+    returns
+    add-i
+    loop-less
+    loop-again
+    returns-2)

@@ -1,0 +1,42 @@
+-- What a load answers, in the terms of paper 01 ("Memory map", last paragraph; "Refusal numbers"; "APLX", last paragraph),
+-- and what each case of the code's answer says in these terms.
+use Prim.Native.Nat.{ℕ}
+use Rattle.memory_map.specs.declared.answer.Entry.{Entry}
+use Rattle.memory_map.specs.declared.answer.Entry.the-variants.{Arm, Thumb}
+use Rattle.memory_map.specs.declared.answer.Stop as code-stop
+use Rattle.memory_map.specs.declared.answer.Stop.the-variants.{End, Unknown, Run}
+use Rattle.memory_map.specs.declared.answer.Answer.{Answer}
+use Rattle.memory_map.specs.declared.answer.Answer.the-variants.{Refused, Accepted}
+
+-- the kind of a run's entry
+pub data Kind : Type 0 where
+  arm thumb : Kind
+
+-- why a load stopped
+pub data Stop : Type 0 where
+  end : ℕ → Stop  -- place
+  unknown : ℕ → ℕ → Stop  -- command word, place
+  run : Kind → ℕ → ℕ → Stop  -- kind, address as written, resume
+
+-- a refused load, or an accepted one
+pub data Outcome : Type 0 where
+  refused : ℕ → ℕ → Outcome  -- number, place
+  accepted : Stop → ℕ → ℕ → Outcome  -- stop, entries or blocks taken, bytes stored
+
+-- ---- the code's answers
+abbrev pub kindOf : Entry → Kind
+kindOf (Arm a) = arm
+kindOf (Thumb a) = thumb
+
+abbrev pub addressOf : Entry → ℕ
+addressOf (Arm a) = a
+addressOf (Thumb a) = a
+
+abbrev pub stopOf : code-stop.Stop → Stop
+stopOf (End p) = end p
+stopOf (Unknown c p) = unknown c p
+stopOf (Run e r) = run (kindOf e) (addressOf e) r
+
+abbrev pub outcomeOf : Answer → Outcome
+outcomeOf (Refused r) = refused (r .number) (r .place)
+outcomeOf (Accepted s t b) = accepted (stopOf s) t b

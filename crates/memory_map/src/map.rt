@@ -1,0 +1,225 @@
+// Up to eight regions over one lent buffer.
+ghost use mathlib.Core.Path.{_≡_};
+ghost use mathlib.Core.Bool.{_&&_};
+ghost use Prim.Native.Nat.{_+_, _<_, _≤_};
+ghost use lib.ListN.{length, drop};
+ghost use Rattle.words.specs.Choice.{every};
+ghost use Rattle.memory_map.specs.Region.{keepsRules, clear, endsInside};
+ghost use Rattle.memory_map.specs.Map.{regionsOf, regionAt, allKeepRules, emptyMap, wellFormed, sound, refused, add, additionOf};
+ghost use Rattle.memory_map.specs.Lookup.{lookup, foundOf};
+ghost use Rattle.memory_map.specs.Entry.{runEntry, runEntryOf};
+use crate::answer::Entry;
+use crate::answer::MAP_NOT_SOUND;
+use crate::answer::NOT_PERMITTED;
+use crate::answer::RUN_NOT_LEGAL;
+use crate::answer::Refusal;
+use crate::region::Region;
+use crate::region::Right;
+use crate::region::Rights;
+
+// Regions 0 to `count` - 1 are in use.
+pub struct Map {
+    pub regions: [Region; 8],
+    pub count: usize,
+}
+
+pub enum Verdict {
+    Taken,
+    Refused(Refusal),
+}
+
+// What an addition hands back.
+pub struct Addition {
+    pub map: Map,
+    pub verdict: Verdict,
+}
+
+// The buffer place of a permitted range, or the number of the refusal.
+pub enum Found {
+    At(usize),
+    Refused(u32),
+}
+
+// A legal run entry, or the number of the refusal.
+pub enum RunEntry {
+    Legal(Entry),
+    Refused(u32),
+}
+
+fn refused(map: Map) -> Addition
+    ensures { λ r. ⌜ additionOf r ≡ record { map = map; verdict = refused 1 0 } ⌝ }
+{
+    Addition {
+        map,
+        verdict: Verdict::Refused(Refusal {
+            number: MAP_NOT_SOUND,
+            place: 0,
+        }),
+    }
+}
+
+impl Map {
+    pub fn empty() -> Map
+        ensures { λ r. ⌜ r ≡ emptyMap ⌝ }
+    {
+        let none = Rights {
+            read: false,
+            write: false,
+            run: false,
+        };
+        let region = Region {
+            base: 0,
+            length: 0,
+            place: 0,
+            rights: none,
+        };
+        Map {
+            regions: [region; 8],
+            count: 0,
+        }
+    }
+
+    // The number of regions in use.
+    fn used(self) -> usize
+        ensures { λ r. ⌜ (r ≡ length (regionsOf self)) × (r ≤ 8) ⌝ }
+    {
+        let n = self.count;
+        if n < 8 { n } else { 8 }
+    }
+
+    // Whether every region from an index on is clear of a region.
+    fn clear_from(self, from: usize, region: Region) -> bool
+        ensures { λ r. ⌜ r ≡ every (clear region) (drop from (regionsOf self)) ⌝ }
+    {
+        let n = self.used();
+        let mut i = from;
+        while i < n {
+            let other = self.regions[i];
+            if !region.clear_of(other) {
+                return false;
+            }
+            i += 1;
+        }
+        true
+    }
+
+    // Whether a region that is in use keeps the rules, and every later one is clear of it.
+    fn region_keeps_rules(self, i: usize) -> bool
+        requires { ⌜ (i < length (regionsOf self)) × (i < 8) ⌝ }
+        ensures { λ r. ⌜ r ≡ (keepsRules (regionAt self i) && every (clear (regionAt self i)) (drop (i + 1) (regionsOf self))) ⌝ }
+    {
+        let region = self.regions[i];
+        if region.keeps_rules() {
+            self.clear_from(i + 1, region)
+        } else {
+            false
+        }
+    }
+
+    // Whether the regions in use keep every rule that needs no buffer.
+    fn keeps_rules(self) -> bool
+        ensures { λ r. ⌜ r ≡ allKeepRules (regionsOf self) ⌝ }
+    {
+        let n = self.used();
+        let mut i: usize = 0;
+        while i < n {
+            if !self.region_keeps_rules(i) {
+                return false;
+            }
+            i += 1;
+        }
+        true
+    }
+
+    // Whether the map keeps every rule that needs no buffer.
+    pub fn well_formed(self) -> bool
+        ensures { λ r. ⌜ r ≡ wellFormed self ⌝ }
+    {
+        if self.count > 8 {
+            return false;
+        }
+        self.keeps_rules()
+    }
+
+    // Whether every region ends inside a buffer of so many bytes.
+    fn ends_inside(self, size: usize) -> bool
+        ensures { λ r. ⌜ r ≡ every (endsInside size) (regionsOf self) ⌝ }
+    {
+        let n = self.used();
+        let mut i: usize = 0;
+        while i < n {
+            let region = self.regions[i];
+            if !region.ends_inside(size) {
+                return false;
+            }
+            i += 1;
+        }
+        true
+    }
+
+    // Whether the map is sound for a buffer of so many bytes.
+    pub fn sound(self, size: usize) -> bool
+        ensures { λ r. ⌜ r ≡ sound self size ⌝ }
+    {
+        if self.well_formed() {
+            self.ends_inside(size)
+        } else {
+            false
+        }
+    }
+
+    // The map with a region more, or, refused, the map as it was.
+    pub fn add(mut self, region: Region) -> Addition
+        ensures { λ r. ⌜ additionOf r ≡ add self region ⌝ }
+    {
+        let before = self;
+        let n = self.count;
+        if n >= 8 {
+            return refused(before);
+        }
+        self.regions[n] = region;
+        self.count = n + 1;
+        if self.well_formed() {
+            return Addition {
+                map: self,
+                verdict: Verdict::Taken,
+            };
+        }
+        refused(before)
+    }
+
+    // The buffer place of `length` addresses from `address` on, where one region permits them.
+    pub fn lookup(self, right: Right, address: u32, length: u64) -> Found
+        ensures { λ r. ⌜ foundOf r ≡ lookup self right address length ⌝ }
+    {
+        let n = self.used();
+        let mut i: usize = 0;
+        while i < n {
+            let region = self.regions[i];
+            if region.permits(right, address, length) {
+                return Found::At(region.place_of(address));
+            }
+            i += 1;
+        }
+        Found::Refused(NOT_PERMITTED)
+    }
+
+    // The run entry at an address, where it is legal.
+    pub fn run_entry(self, address: u32) -> RunEntry
+        ensures { λ r. ⌜ runEntryOf r ≡ runEntry (lookup self) address ⌝ }
+    {
+        if address % 2 == 1 {
+            match self.lookup(Right::Run, address - 1, 1) {
+                Found::At(_) => RunEntry::Legal(Entry::Thumb(address)),
+                Found::Refused(_) => RunEntry::Refused(RUN_NOT_LEGAL),
+            }
+        } else if address % 4 == 0 {
+            match self.lookup(Right::Run, address, 1) {
+                Found::At(_) => RunEntry::Legal(Entry::Arm(address)),
+                Found::Refused(_) => RunEntry::Refused(RUN_NOT_LEGAL),
+            }
+        } else {
+            RunEntry::Refused(RUN_NOT_LEGAL)
+        }
+    }
+}

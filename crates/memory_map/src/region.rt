@@ -1,0 +1,119 @@
+// One region of memory.
+ghost use mathlib.Core.Path.{_≡_};
+ghost use Rattle.memory_map.specs.Region.{allows, keepsRules, clear, endsInside, permits, placeIn};
+
+pub struct Rights {
+    pub read: bool,
+    pub write: bool,
+    pub run: bool,
+}
+
+pub enum Right {
+    Read,
+    Write,
+    Run,
+}
+
+// `length` addresses from `base` on, which are the buffer's bytes from `place` on.
+pub struct Region {
+    pub base: u32,
+    pub length: u32,
+    pub place: u32,
+    pub rights: Rights,
+}
+
+impl Region {
+    pub(crate) fn allows(self, right: Right) -> bool
+        ensures { λ r. ⌜ r ≡ allows self right ⌝ }
+    {
+        let rights = self.rights;
+        match right {
+            Right::Read => rights.read,
+            Right::Write => rights.write,
+            Right::Run => rights.run,
+        }
+    }
+
+    // Whether it keeps the rules for one region.
+    pub(crate) fn keeps_rules(self) -> bool
+        ensures { λ r. ⌜ r ≡ keepsRules self ⌝ }
+    {
+        let base = self.base;
+        let length = self.length;
+        if base % 4 != 0 {
+            return false;
+        }
+        if length % 4 != 0 {
+            return false;
+        }
+        if length < 4 {
+            return false;
+        }
+        if length > 16777216 {
+            return false;
+        }
+        base as u64 + length as u64 <= 4294967280
+    }
+
+    // Whether it shares no address and no buffer byte with another.
+    pub(crate) fn clear_of(self, other: Region) -> bool
+        ensures { λ r. ⌜ r ≡ clear self other ⌝ }
+    {
+        if words::range::share(
+            self.base as u64,
+            self.length as u64,
+            other.base as u64,
+            other.length as u64,
+        ) {
+            return false;
+        }
+        if words::range::share(
+            self.place as u64,
+            self.length as u64,
+            other.place as u64,
+            other.length as u64,
+        ) {
+            return false;
+        }
+        true
+    }
+
+    // Whether it ends inside a buffer of so many bytes.
+    pub(crate) fn ends_inside(self, size: usize) -> bool
+        ensures { λ r. ⌜ r ≡ endsInside size self ⌝ }
+    {
+        words::range::fits(self.place as usize, self.length as usize, size)
+    }
+
+    // The buffer place of an address that is not below the base.
+    pub(crate) fn place_of(self, address: u32) -> usize
+        ensures { λ r. ⌜ r ≡ placeIn self address ⌝ }
+    {
+        if address < self.base {
+            return self.place as usize;
+        }
+        self.place as usize + (address - self.base) as usize
+    }
+
+    // Whether the range is not empty, lies wholly inside, and the right is given.
+    pub(crate) fn permits(self, right: Right, address: u32, length: u64) -> bool
+        ensures { λ r. ⌜ r ≡ permits self right address length ⌝ }
+    {
+        if length == 0 {
+            return false;
+        }
+        let start = self.base as u64;
+        let end = start + self.length as u64;
+        let first = address as u64;
+        if first < start {
+            return false;
+        }
+        if end < first {
+            return false;
+        }
+        if end - first < length {
+            return false;
+        }
+        self.allows(right)
+    }
+}

@@ -1,0 +1,19 @@
+-- `words::read::number_of_two` meets its contract: the sum is the definition's.
+use borrow.Author.Needs.{needs}
+use native.Mathlib.Omega.{arith}
+use Rattle.words.specs.Bytes.{fromLittleEndian}
+use Rattle.words.proofs.read.number_of_two.Statement.{statement}
+use Rattle.words.proofs.read.number_of_two.Tie as tie
+
+mul-result : tie.Need-mul-result
+mul-result c = search needs
+
+add-result : tie.Need-add-result
+add-result c = search needs
+
+returns : tie.Need-returns
+unfolding fromLittleEndian
+returns c = omega arith
+
+pub number-of-two-spec : {M : Type 1} → statement M
+number-of-two-spec = tie.close (tie.spec mul-result add-result returns)

@@ -1,0 +1,59 @@
+-- Laws of tests and of properties of every element.
+use mathlib.Core.Path.{_≡_, refl, sym}
+use mathlib.Core.Bool.{Bool, true, false, _&&_}
+use mathlib.Core.List.{List, [], _∷_, _++_, reverse, reverseAux}
+use Prim.Native.Nat.{ℕ, zero, suc, _≤_}
+use native.Mathlib.Omega.{arith}
+use lib.Dec.{leb}
+use lib.ListN.{take, drop}
+use borrow.Author.Tests.{leb-true, le-leb}
+use Rattle.words.specs.Choice.{All, every}
+
+-- ---- tests
+pub true-is-false : {A : Type 0} → true ≡ false → A
+true-is-false e = let z : _≡_ {A = ℕ} 0 1 = cc in absurd (omega arith)
+
+-- two tests that hold in the same cases are equal
+pub same-test : (s t : Bool) → (s ≡ true → t ≡ true) → (t ≡ true → s ≡ true) → s ≡ t
+same-test true t f g = sym (f refl)
+same-test false true f g = g refl
+same-test false false f g = refl
+
+pub leb-same : (a b c d : ℕ) → (a ≤ b → c ≤ d) → (c ≤ d → a ≤ b) → leb a b ≡ leb c d
+leb-same a b c d f g =
+    same-test (leb a b) (leb c d) (λ e. le-leb c d (f (leb-true a b e))) (λ e. le-leb a b (g (leb-true c d e)))
+
+pub both : (s t : Bool) → (s && t) ≡ true → (s ≡ true) × (t ≡ true)
+both true t e = (refl, e)
+both false t e = true-is-false (sym e)
+
+-- ---- every element
+pub every-all : {A : Type 0} (t : A → Bool) (l : List A) → every t l ≡ true → All (λ x. t x ≡ true) l
+unfolding every
+every-all t [] e = tt
+every-all t (x ∷ xs) e = let b = both (t x) (every t xs) e in (b .0, every-all t xs (b .1))
+
+pub all-map : {A : Type 0} (P Q : A → Type 0) (l : List A) → ((x : A) → P x → Q x) → All P l → All Q l
+all-map P Q [] f h = tt
+all-map P Q (x ∷ xs) f h = (f x (h .0), all-map P Q xs f (h .1))
+
+pub all-append : {A : Type 0} (P : A → Type 0) (l k : List A) → All P l → All P k → All P (l ++ k)
+all-append P [] k h g = g
+all-append P (x ∷ xs) k h g = (h .0, all-append P xs k (h .1) g)
+
+pub all-take : {A : Type 0} (P : A → Type 0) (n : ℕ) (l : List A) → All P l → All P (take n l)
+all-take P zero l h = tt
+all-take P (suc n) [] h = tt
+all-take P (suc n) (x ∷ xs) h = (h .0, all-take P n xs (h .1))
+
+pub all-drop : {A : Type 0} (P : A → Type 0) (n : ℕ) (l : List A) → All P l → All P (drop n l)
+all-drop P zero l h = h
+all-drop P (suc n) [] h = tt
+all-drop P (suc n) (x ∷ xs) h = all-drop P n xs (h .1)
+
+pub all-reverse : {A : Type 0} (P : A → Type 0) (l : List A) → All P l → All P (reverse l)
+all-reverse {A} P l h = go l [] h tt
+  where
+    go : (l r : List A) → All P l → All P r → All P (reverseAux l r)
+    go [] r h g = g
+    go (x ∷ xs) r h g = go xs (x ∷ r) (h .1) (h .0, g)

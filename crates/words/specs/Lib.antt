@@ -1,0 +1,7 @@
+-- Bytes, words, stores and ranges: definitions, and below each its laws.
+pub mod Choice
+pub mod Bytes
+pub mod Store
+pub mod Repeat
+pub mod Round
+pub mod Range

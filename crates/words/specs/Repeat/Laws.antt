@@ -1,0 +1,56 @@
+-- Laws of repeated words.
+use mathlib.Core.Path.{_≡_, refl, ap, _∙_}
+use mathlib.Core.List.{List, [], _∷_, _++_, append-assoc, append-nil}
+use Prim.Native.Nat.{ℕ, zero, suc, _+_, _-_, _*_, _/_, _%_}
+use native.Mathlib.Nat.{zero-add}
+use native.Mathlib.Omega.{arith}
+use lib.ListN.{length, take, length-append}
+use lib.Seq.{take-at, length-take-le}
+use Rattle.words.specs.Bytes.{littleEndian, Bytes}
+use Rattle.words.specs.Bytes.Laws.{length-littleEndian, bytes-of}
+use Rattle.words.specs.Choice.Laws.{all-append, all-take}
+use Rattle.words.specs.Repeat.{repeated, filling}
+
+pub length-repeated : (k w : ℕ) → length (repeated k w) ≡ 4 * k
+unfolding repeated
+length-repeated zero w = refl
+length-repeated (suc k) w = simp (length-append, length-littleEndian, length-repeated k w) (omega arith)
+
+pub repeated-add : (k j w : ℕ) → repeated (k + j) w ≡ repeated k w ++ repeated j w
+unfolding repeated
+repeated-add zero j w = simp zero-add
+repeated-add (suc k) j w = let e : suc k + j ≡ suc (k + j) = omega arith in simp (e, repeated-add k j w, append-assoc)
+
+-- one more word at the end
+pub repeated-more : (k w : ℕ) → repeated (k + 1) w ≡ repeated k w ++ littleEndian 4 w
+unfolding repeated
+repeated-more k w = rw (repeated-add k 1 w, append-nil (littleEndian 4 w))
+
+pub length-filling : (n w : ℕ) → length (filling n w) ≡ n
+unfolding filling
+length-filling n w = length-take-le n (repeated n w) (omega (arith, length-repeated n w))
+
+-- cut at a multiple of 4
+pub filling-whole : (n w : ℕ) → n % 4 ≡ 0 → filling n w ≡ repeated (n / 4) w
+unfolding filling
+filling-whole n w h =
+    let e : n ≡ n / 4 + (n - n / 4) = omega arith in
+    let l : length (repeated (n / 4) w) ≡ n = length-repeated (n / 4) w ∙ omega arith in
+    ap (λ (k : ℕ). take n (repeated k w)) e ∙ ap (λ (t : List ℕ). take n t) (repeated-add (n / 4) (n - n / 4) w) ∙ take-at _ _ n l
+
+pub filling-bytes : (n w : ℕ) → Bytes (filling n w)
+unfolding filling repeated
+filling-bytes n w = all-take _ n (repeated n w) (go n)
+  where
+    go : (k : ℕ) → Bytes (repeated k w)
+    go zero = tt
+    go (suc k) = all-append _ (littleEndian 4 w) (repeated k w) (bytes-of 4 w) (go k)
+
+-- worked examples: a fill of one word, and one cut in its second word
+pub record Examples : Type 0 where
+  pub one : filling 4 0x01020304 ≡ 4 ∷ 3 ∷ 2 ∷ 1 ∷ []
+  pub cut : filling 6 0x01020304 ≡ 4 ∷ 3 ∷ 2 ∷ 1 ∷ 4 ∷ 3 ∷ []
+
+pub examples : Examples
+unfolding filling repeated littleEndian
+examples = record { one = refl; cut = refl }

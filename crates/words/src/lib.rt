@@ -1,0 +1,4 @@
+// Bytes, words and ranges, as the loaders and packers need them. Each function answers for any input.
+pub mod read; // numbers out of bytes
+pub mod put; // numbers into bytes
+pub mod range; // ranges that share a number, and lengths rounded up

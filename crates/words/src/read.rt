@@ -1,0 +1,54 @@
+// Numbers out of the first bytes of a slice. Bytes past its end count as zero.
+ghost use mathlib.Core.Path.{_≡_};
+ghost use mathlib.Core.List.{[], _∷_};
+ghost use lib.ListN.{getD};
+ghost use Rattle.words.specs.Bytes.{fromLittleEndian, littleEndianAt, bigEndianAt};
+
+// The byte at a place, or zero past the end.
+fn byte_at(s: &[u8], at: usize) -> u8
+    ensures { λ r. ⌜ r ≡ getD (now (s .entry)) at 0 ⌝ }
+{
+    if at < s.len() { s[at] } else { 0 }
+}
+
+// The number of two bytes, lowest first.
+fn number_of_two(a: u8, b: u8) -> u16
+    ensures { λ r. ⌜ r ≡ fromLittleEndian (a ∷ b ∷ []) ⌝ }
+{
+    a as u16 + 256 * (b as u16)
+}
+
+// The number of four bytes, lowest first.
+fn number_of_four(a: u8, b: u8, c: u8, d: u8) -> u32
+    ensures { λ r. ⌜ r ≡ fromLittleEndian (a ∷ b ∷ c ∷ d ∷ []) ⌝ }
+{
+    a as u32 + 256 * (b as u32) + 65536 * (c as u32) + 16777216 * (d as u32)
+}
+
+// The Little Endian number in the first two bytes.
+pub fn le_half(s: &[u8]) -> u16
+    ensures { λ r. ⌜ r ≡ littleEndianAt 2 (now (s .entry)) 0 ⌝ }
+{
+    number_of_two(byte_at(s, 0), byte_at(s, 1))
+}
+
+// The Little Endian number in the first four bytes.
+pub fn le_word(s: &[u8]) -> u32
+    ensures { λ r. ⌜ r ≡ littleEndianAt 4 (now (s .entry)) 0 ⌝ }
+{
+    number_of_four(byte_at(s, 0), byte_at(s, 1), byte_at(s, 2), byte_at(s, 3))
+}
+
+// The Big Endian number in the first two bytes.
+pub fn be_half(s: &[u8]) -> u16
+    ensures { λ r. ⌜ r ≡ bigEndianAt 2 (now (s .entry)) 0 ⌝ }
+{
+    number_of_two(byte_at(s, 1), byte_at(s, 0))
+}
+
+// The Big Endian number in the first four bytes.
+pub fn be_word(s: &[u8]) -> u32
+    ensures { λ r. ⌜ r ≡ bigEndianAt 4 (now (s .entry)) 0 ⌝ }
+{
+    number_of_four(byte_at(s, 3), byte_at(s, 2), byte_at(s, 1), byte_at(s, 0))
+}
