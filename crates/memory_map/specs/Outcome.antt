@@ -1,5 +1,7 @@
 -- What a load answers, in the terms of paper 01 ("Memory map", last paragraph; "Refusal numbers"; "APLX", last paragraph),
 -- and what each case of the code's answer says in these terms.
+pub mod Laws
+use mathlib.Core.List.{List}
 use Prim.Native.Nat.{ℕ}
 use Rattle.memory_map.specs.declared.answer.Entry.{Entry}
 use Rattle.memory_map.specs.declared.answer.Entry.the-variants.{Arm, Thumb}
@@ -22,6 +24,26 @@ pub data Stop : Type 0 where
 pub data Outcome : Type 0 where
   refused : ℕ → ℕ → Outcome  -- number, place
   accepted : Stop → ℕ → ℕ → Outcome  -- stop, entries or blocks taken, bytes stored
+
+-- how the tests of a load end: at its stop, or at the first refusal
+pub data Ending : Type 0 where
+  stops : Stop → Ending
+  refuses : ℕ → ℕ → Ending  -- number, place
+
+-- the outcome, with what was taken and stored before the stop
+abbrev pub outcomeAt : Ending → ℕ → ℕ → Outcome
+outcomeAt (stops s) t b = accepted s t b
+outcomeAt (refuses n p) t b = refused n p
+
+-- "Memory and output keep every byte" of a refused load
+abbrev pub memoryAt : Ending → List ℕ → List ℕ → List ℕ
+memoryAt (stops s) old new = new
+memoryAt (refuses n p) old new = old
+
+-- what a load leaves: its outcome, and every byte of memory
+pub record Loaded : Type 0 where
+  pub outcome : Outcome
+  pub memory : List ℕ
 
 -- ---- the code's answers
 abbrev pub kindOf : Entry → Kind

@@ -1,6 +1,7 @@
 -- Bytes, words, stores and ranges: definitions, and below each its laws.
 pub mod Choice
 pub mod Bytes
+pub mod Swap
 pub mod Store
 pub mod Repeat
 pub mod Round

@@ -98,7 +98,24 @@ first-four s =
     rw
     (first-one 3 s, first-one 2 (drop 1 s), drop-drop 1 1 s, first-one 1 (drop 2 s), drop-drop 1 2 s, first-one 0 (drop 3 s), getD-drop 1 s 0 0, getD-drop 2 s 0 0, getD-drop 3 s 0 0)
 
+pub first-of-take : (k n : ℕ) (s : List ℕ) → k ≤ n → firstBytes k (take n s) ≡ firstBytes k s
+unfolding firstBytes
+first-of-take zero n s h = refl
+first-of-take (suc k) zero s h = absurd (omega arith)
+first-of-take (suc k) (suc n) [] h = refl
+first-of-take (suc k) (suc n) (b ∷ s) h = ap (λ (l : List ℕ). b ∷ l) (first-of-take k n s (omega arith))
+
 -- ---- the number at a place
+-- of a part of n bytes that begins at a
+module _ (k a n : ℕ) (s : List ℕ) (h : k ≤ n) where
+  pub little-at-part : littleEndianAt k (take n (drop a s)) 0 ≡ littleEndianAt k s a
+  unfolding littleEndianAt
+  little-at-part = ap fromLittleEndian (first-of-take k n (drop a s) h)
+
+  pub big-at-part : bigEndianAt k (take n (drop a s)) 0 ≡ bigEndianAt k s a
+  unfolding bigEndianAt
+  big-at-part = ap fromBigEndian (first-of-take k n (drop a s) h)
+
 -- of a part that begins at a
 module _ (k a p : ℕ) (s : List ℕ) where
   pub little-at-drop : littleEndianAt k (drop a s) p ≡ littleEndianAt k s (a + p)

@@ -5,7 +5,7 @@ use mathlib.Core.List.{List, [], _∷_, _++_, reverse, reverseAux}
 use Prim.Native.Nat.{ℕ, zero, suc, _≤_}
 use native.Mathlib.Omega.{arith}
 use lib.Dec.{leb}
-use lib.ListN.{take, drop}
+use lib.ListN.{take, drop, getD}
 use borrow.Author.Tests.{leb-true, le-leb}
 use Rattle.words.specs.Choice.{All, every}
 
@@ -32,6 +32,10 @@ pub every-all : {A : Type 0} (t : A → Bool) (l : List A) → every t l ≡ tru
 unfolding every
 every-all t [] e = tt
 every-all t (x ∷ xs) e = let b = both (t x) (every t xs) e in (b .0, every-all t xs (b .1))
+
+pub all-elements : {A : Type 0} (P : A → Type 0) (d : A) (l : List A) → ((i : ℕ) → P (getD l i d)) → All P l
+all-elements P d [] f = tt
+all-elements P d (x ∷ xs) f = (f 0, all-elements P d xs (λ i. f (suc i)))
 
 pub all-map : {A : Type 0} (P Q : A → Type 0) (l : List A) → ((x : A) → P x → Q x) → All P l → All Q l
 all-map P Q [] f h = tt

@@ -1,13 +1,14 @@
 -- Laws of stores.
 use mathlib.Core.Path.{_≡_, refl, ap, sym, _∙_}
-use mathlib.Core.List.{List, [], _∷_, _++_, append-assoc}
+use mathlib.Core.List.{List, [], _∷_, _++_, append-assoc, append-nil}
 use Prim.Native.Nat.{ℕ, zero, suc, _+_, _-_, _≤_, _<_}
-use native.Mathlib.Nat.{add-zero, add-assoc}
+use native.Mathlib.Nat.{add-zero, zero-add, add-assoc}
 use native.Mathlib.Numerals.{add-one, add-two, add-three}
 use native.Mathlib.Omega.{arith}
-use lib.ListN.{length, take, drop, getD, set, length-append, length-drop, take-append-drop, List·getD-append}
-use lib.Seq.{length-take-le, take-take, take-append-le, drop-append-le, drop-drop, take-at, drop-at, getD-take, getD-drop, sets, sets-eq, ext-getD}
+use lib.ListN.{length, take, drop, getD, set, length-append, length-drop, take-append-drop, drop-of-length-le, List·getD-append}
+use lib.Seq.{drop-cons, length-take-le, take-take, take-append-le, drop-append-le, drop-drop, take-at, drop-at, getD-take, getD-drop, sets, sets-eq, ext-getD}
 use borrow.Author.Tests.{le-leb, lt-leb}
+use borrow.Rule.Slice.PartMut.{midOf, putMid, post-is, mid-len}
 use Rattle.words.specs.Range.Laws.{Apart, before, behind, apart-swap, apart-part, Inside, Zone, inside, outside, zone}
 use Rattle.words.specs.Store.{store, storeIfFits}
 
@@ -18,6 +19,11 @@ part-of-front zero k p m h = take-take k p m (omega arith)
 part-of-front (suc q) k zero m h = absurd (omega arith)
 part-of-front (suc q) k (suc p) [] h = refl
 part-of-front (suc q) k (suc p) (x ∷ m) h = part-of-front q k p m (omega arith)
+
+-- four elements from place p on
+pub four-elements : (m : List ℕ) (p : ℕ) → p + 4 ≤ length m → take 4 (drop p m) ≡ getD m p 0 ∷ getD m (p + 1) 0 ∷ getD m (p + 2) 0 ∷ getD m (p + 3) 0 ∷ []
+four-elements m p h =
+    rw (drop-cons m p 0 (omega arith), drop-cons m (suc p) 0 (omega arith), drop-cons m (suc (suc p)) 0 (omega arith), drop-cons m (suc (suc (suc p))) 0 (omega arith), add-one, add-two, add-three)
 
 -- ---- one store, which fits
 module _ (m : List ℕ) (p : ℕ) (d : List ℕ) (fits : p + length d ≤ length m) where
@@ -122,6 +128,17 @@ store-commutes m p d q e x y a =
 pub store-nil : (m : List ℕ) (p : ℕ) → store m p [] ≡ m
 unfolding store
 store-nil m p = simp (add-zero, take-append-drop)
+
+-- a store over the whole list
+pub store-whole : (m d : List ℕ) → length d ≡ length m → store m 0 d ≡ d
+unfolding store
+store-whole m d e = simp (zero-add, drop-of-length-le m {i = length d} (omega arith), append-nil)
+
+-- the part from p to q, lent and come back as d
+pub store-part : (m : List ℕ) (p q : ℕ) (d : List ℕ) → p ≤ q → q ≤ length m → length d ≡ length (midOf p (q - p) m)
+    → putMid p (q - p) m d ≡ store m p d
+unfolding store
+store-part m p q d h g k = let e : p + length d ≡ q = omega (arith, mid-len p q m g) in rw (post-is p q m h, e)
 
 -- a store that does not fit changes nothing
 pub store-unfit : (m : List ℕ) (p : ℕ) (d : List ℕ) → length m < p + length d → storeIfFits m p d ≡ m

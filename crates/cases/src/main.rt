@@ -1,0 +1,9 @@
+// The weighed cases, run and compared with the stored output.
+mod map_cases;
+mod srom_cases;
+mod tell;
+
+fn main() {
+    map_cases::run();
+    srom_cases::run();
+}

@@ -1,0 +1,87 @@
+-- The blocks of a serial ROM, tested one after the other up to the stop (paper 01, "Serial ROM"). Nothing is stored.
+pub mod Items
+pub mod Laws
+use mathlib.Core.Bool.{not}
+use mathlib.Core.List.{List, [], _∷_}
+use Prim.Native.Nat.{ℕ, zero, suc, _+_, _-_, _*_, _%_}
+use lib.Dec.{leb, ltb, eqb}
+use lib.ListN.{length, take, drop, getD}
+use Rattle.words.specs.Choice.{if_then_else_}
+use Rattle.words.specs.Bytes.{bigEndianAt}
+use Rattle.words.specs.Swap.{swapWords}
+use Rattle.memory_map.specs.declared.region.Right.the-variants.{Write}
+use Rattle.memory_map.specs.Outcome.{end, run, Ending, stops, refuses}
+use Rattle.memory_map.specs.Lookup as map
+use Rattle.memory_map.specs.Lookup.{Lookup, Found}
+use Rattle.memory_map.specs.Entry as entry
+use Rattle.memory_map.specs.Entry.{RunEntry, runEntry}
+
+-- a block with data: the bytes that memory gets, and their place in the buffer
+pub record Block : Type 0 where
+  pub place : ℕ
+  pub bytes : List ℕ
+
+-- what stands at an offset
+pub data Item : Type 0 where
+  pad : Item
+  block : Block → ℕ → Item  -- and the offset after it
+  halt : Ending → Item
+
+-- the block at offset o of n words for an address: 3, then 2 for its data, then 4. "Each word is stored Little Endian."
+abbrev pub placed : Found → List ℕ → ℕ → ℕ → Item
+placed (map.at p) d o e = block (record { place = p; bytes = d }) e
+placed (map.refused x) d o e = halt (refuses x o)
+
+unfoldable pub dataBlock : Lookup → List ℕ → ℕ → ℕ → ℕ → Item
+dataBlock find s o n a =
+    if not (eqb (a % 4) 0) then halt (refuses 3 o)
+    else if ltb (length s) (o + 7 + 4 * n) then halt (refuses 2 o)
+    else placed (find Write a (4 * n)) (swapWords (take (4 * n) (drop (o + 7) s))) o (o + 7 + 4 * n)
+
+-- "Length 0 is a run of the address, not an empty load; resume is the offset after the block." 9 where it is not legal
+abbrev pub runOf : RunEntry → ℕ → Item
+runOf (entry.entry k a) o = halt (stops (run k a (o + 7)))
+runOf (entry.refused x) o = halt (refuses x o)
+
+-- "After 0x3a: length in words, 2 bytes; address, 4 bytes; the data words, 4 bytes each; all Big Endian." 2 where the header is cut short
+unfoldable pub blockAt : Lookup → List ℕ → ℕ → Item
+blockAt find s o =
+    if ltb (length s) (o + 7) then halt (refuses 2 o)
+    else if eqb (bigEndianAt 2 s (o + 1)) 0 then runOf (runEntry find (bigEndianAt 4 s (o + 3))) o
+    else dataBlock find s o (bigEndianAt 2 s (o + 1)) (bigEndianAt 4 s (o + 3))
+
+-- "Pads are passed over until a byte that is not one (0x55). If that byte is not 0x3a, the load ends there." "A slice that runs
+-- out before a terminator is refused 2, place the slice length; so is an offset at or past its end."
+unfoldable pub itemAt : Lookup → List ℕ → ℕ → Item
+itemAt find s o =
+    if leb (length s) o then halt (refuses 2 (length s))
+    else if eqb (getD s o 0) 0x55 then pad
+    else if eqb (getD s o 0) 0x3a then blockAt find s o
+    else halt (stops (end o))
+
+-- the blocks before the end, and the end
+pub record Walk : Type 0 where
+  pub blocks : List Block
+  pub ending : Ending
+
+abbrev pub after : Item → ℕ → (ℕ → Walk) → Walk
+after pad o go = go (o + 1)
+after (block b e) o go = record { blocks = b ∷ go e .blocks; ending = go e .ending }
+after (halt x) o go = record { blocks = []; ending = x }
+
+-- item by item, of which there are f at most
+unfoldable pub walkFor : ℕ → Lookup → List ℕ → ℕ → Walk
+walkFor zero find s o = record { blocks = []; ending = refuses 2 (length s) }
+walkFor (suc f) find s o = after (itemAt find s o) o (walkFor f find s)
+
+-- an item takes one byte at least, so these are enough (`walk-enough`, in the laws)
+unfoldable pub walk : Lookup → List ℕ → ℕ → Walk
+walk find s o = walkFor (suc (length s - o)) find s o
+
+-- where the pads from an offset on end
+unfoldable pub leadingPads : List ℕ → ℕ
+leadingPads [] = 0
+leadingPads (b ∷ s) = if eqb b 0x55 then suc (leadingPads s) else 0
+
+unfoldable pub padsEnd : List ℕ → ℕ → ℕ
+padsEnd s o = o + leadingPads (drop o s)

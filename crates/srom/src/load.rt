@@ -1,0 +1,50 @@
+// The load of a serial ROM.
+ghost use mathlib.Core.Path.{_≡_};
+ghost use lib.ListN.{length};
+ghost use Rattle.memory_map.specs.Outcome.{outcomeOf};
+ghost use Rattle.srom.specs.Load.{sromLook, outcomeOfWalk, sromLoad};
+use memory_map::answer::Answer;
+use memory_map::answer::MAP_NOT_SOUND;
+use memory_map::answer::Refusal;
+use memory_map::answer::SROM_TOO_LONG;
+use memory_map::map::Map;
+
+// The whole answer of a load into a memory of so many bytes. Nothing is stored.
+fn look(map: Map, size: usize, rom: &[u8], offset: usize) -> Answer
+    ensures { λ r. ⌜ outcomeOf r ≡ outcomeOfWalk (sromLook map size (now (rom .entry)) offset) ⌝ }
+{
+    if !map.sound(size) {
+        return Answer::Refused(Refusal {
+            number: MAP_NOT_SOUND,
+            place: 0,
+        });
+    }
+    if rom.len() > 16777216 {
+        return Answer::Refused(Refusal {
+            number: SROM_TOO_LONG,
+            place: 0,
+        });
+    }
+    crate::walk::walk_blocks(map, rom, offset)
+}
+
+// Loads the ROM from an offset on, which is 0 at power-up, up to the first run or the end. A refused load changes no byte.
+pub fn load(map: Map, memory: &mut [u8], rom: &[u8], offset: usize) -> Answer
+    ensures { λ r. ⌜ record { outcome = outcomeOf r; memory = now (memory .exit) } ≡ sromLoad map (now (rom .entry)) offset (now (memory .entry)) ⌝ }
+{
+    match look(map, memory.len(), rom, offset) {
+        Answer::Refused(refusal) => Answer::Refused(refusal),
+        Answer::Accepted {
+            stop,
+            taken,
+            stored,
+        } => {
+            crate::store::store_blocks(map, memory, rom, offset);
+            Answer::Accepted {
+                stop,
+                taken,
+                stored,
+            }
+        }
+    }
+}

@@ -1,0 +1,65 @@
+-- Laws of swapped words.
+use mathlib.Core.Path.{_≡_, refl, sym}
+use mathlib.Core.List.{List, [], _∷_, _++_}
+use Prim.Native.Nat.{ℕ, zero, suc, _+_, _*_, _/_, _%_, _≤_, _<_}
+use native.Mathlib.Omega.{arith}
+use lib.ListN.{length, take, drop}
+use lib.Seq.{length-take-le, take-add}
+use Rattle.words.specs.Choice.Laws.{all-reverse}
+use Rattle.words.specs.Bytes.{littleEndian, fromBigEndian, firstBytes, bigEndianAt, Bytes}
+use Rattle.words.specs.Bytes.Laws.{littleEndian-from}
+use Rattle.words.specs.Store.{store}
+use Rattle.words.specs.Store.Laws.{store-adjoining}
+use Rattle.words.specs.Swap.{swapWords}
+
+pub swap-swap : (s : List ℕ) → swapWords (swapWords s) ≡ s
+unfolding swapWords
+swap-swap (a ∷ b ∷ c ∷ d ∷ s) = rw (swap-swap s)
+swap-swap [] = refl
+swap-swap (a ∷ []) = refl
+swap-swap (a ∷ b ∷ []) = refl
+swap-swap (a ∷ b ∷ c ∷ []) = refl
+
+pub length-swap : (s : List ℕ) → length (swapWords s) ≡ length s
+unfolding swapWords
+length-swap (a ∷ b ∷ c ∷ d ∷ s) = rw (length-swap s)
+length-swap [] = refl
+length-swap (a ∷ []) = refl
+length-swap (a ∷ b ∷ []) = refl
+length-swap (a ∷ b ∷ c ∷ []) = refl
+
+-- whole words, then more bytes
+pub swap-append : (k : ℕ) (s t : List ℕ) → length s ≡ 4 * k → swapWords (s ++ t) ≡ swapWords s ++ swapWords t
+unfolding swapWords
+swap-append zero [] t e = refl
+swap-append zero (a ∷ s) t e = absurd (omega arith)
+swap-append (suc k) [] t e = refl
+swap-append (suc k) (a ∷ []) t e = absurd (omega arith)
+swap-append (suc k) (a ∷ b ∷ []) t e = absurd (omega arith)
+swap-append (suc k) (a ∷ b ∷ c ∷ []) t e = absurd (omega arith)
+swap-append (suc k) (a ∷ b ∷ c ∷ d ∷ s) t e = rw (swap-append k s t (omega arith))
+
+-- a Big Endian word becomes the same word, Little Endian
+pub swap-word : (a b c d : ℕ) → Bytes (a ∷ b ∷ c ∷ d ∷ []) → swapWords (a ∷ b ∷ c ∷ d ∷ []) ≡ littleEndian 4 (fromBigEndian (a ∷ b ∷ c ∷ d ∷ []))
+unfolding swapWords fromBigEndian
+swap-word a b c d h = sym (littleEndian-from (d ∷ c ∷ b ∷ a ∷ []) (all-reverse (λ (x : ℕ). x < 256) (a ∷ b ∷ c ∷ d ∷ []) h))
+
+-- the same, of a list of four bytes read as a number
+pub swap-number : (s : List ℕ) → length s ≡ 4 → Bytes s → littleEndian 4 (bigEndianAt 4 s 0) ≡ swapWords s
+unfolding bigEndianAt firstBytes
+swap-number (a ∷ b ∷ c ∷ d ∷ []) e h = sym (swap-word a b c d h)
+swap-number [] e h = absurd (omega arith)
+swap-number (a ∷ []) e h = absurd (omega arith)
+swap-number (a ∷ b ∷ []) e h = absurd (omega arith)
+swap-number (a ∷ b ∷ c ∷ []) e h = absurd (omega arith)
+swap-number (a ∷ b ∷ c ∷ d ∷ x ∷ s) e h = absurd (omega arith)
+
+-- k more bytes stored behind p bytes that are whole words
+pub swap-more : (m s : List ℕ) (p k : ℕ) → p % 4 ≡ 0 → p ≤ length s → p ≤ length m
+    → store (store m 0 (swapWords (take p s))) p (swapWords (take k (drop p s))) ≡ store m 0 (swapWords (take (p + k) s))
+swap-more m s p k h x y =
+    let t : length (take p s) ≡ p = length-take-le p s x in
+    let l : 0 + length (swapWords (take p s)) ≡ p = omega (arith, length-swap (take p s)) in
+    rw
+    (take-add p k s, swap-append (p / 4) (take p s) (take k (drop p s)) (omega arith))
+    (rw l at (store-adjoining m 0 (swapWords (take p s)) (omega arith) (swapWords (take k (drop p s)))))

@@ -1,0 +1,75 @@
+#!/usr/bin/env python3
+"""Prints what the program `cases` must write, by the rules in model.py.
+
+second/compare holds crates/cases/stdout to it.
+"""
+import re
+import pathlib
+from model import Region, add, sound, permitted, run_kind, srom_load
+
+SOURCE = pathlib.Path(__file__).resolve().parent.parent / 'crates' / 'cases' / 'src'
+
+
+def out(line):
+    print(line)
+
+
+def verdict(taken):
+    return 'taken' if taken else 'refused 1 at 0'
+
+
+# ---- the map
+
+def map_cases():
+    out('empty map: ' + ('sound' if sound([], 0) else 'not sound'))
+    text = (SOURCE / 'map_cases.rt').read_text()
+    for kind, label, base, length, place in re.findall(r'    (alone|beside)\(b"([^"]*)", (\d+), (\d+), (\d+)\);', text):
+        base, length, place = int(base), int(length), int(place)
+        if kind == 'alone':
+            _, taken = add([], Region(base, length, place, 'rwx'))
+            out(label + verdict(taken))
+        else:
+            first, _ = add([], Region(4096, 64, 64, 'rwx'))
+            regions, taken = add(first, Region(base, length, place, 'rwx'))
+            out(label + verdict(taken))
+            out('%d regions' % len(regions))
+    out('nine regions:')
+    regions = []
+    for k in range(9):
+        regions, taken = add(regions, Region(32 * k, 32, 32 * k, 'rwx'))
+        out(verdict(taken))
+    out('%d regions' % len(regions))
+    for size in (256, 255):
+        out('sound' if sound(regions, size) else 'not sound')
+    out('two adjoining regions:')
+    two = [Region(4096, 64, 8, 'rw'), Region(4160, 64, 72, 'rx')]
+    out('sound' if sound(two, 136) else 'not sound')
+    for regions, right, address, length in re.findall(r'tell::found\(((?:m|Map::empty\(\)))\.lookup\(Right::(\w+), (\d+), (\d+)\)\)', text):
+        place = permitted(two if regions == 'm' else [], {'Read': 'r', 'Write': 'w', 'Run': 'x'}[right], int(address), int(length))
+        out('refused 4' if place is None else 'at %d' % place)
+    out('run entries:')
+    for address in re.findall(r'tell::run_entry\(m\.run_entry\((\d+)\)\)', text):
+        kind = run_kind(two, int(address))
+        out('refused 9' if kind is None else '%s %s' % (kind, address))
+
+
+# ---- the serial ROM
+
+def literal(text):
+    return bytes(int(h, 16) for h in re.findall(r'\\x([0-9a-f]{2})', text))
+
+
+def srom_cases():
+    text = (SOURCE / 'srom_cases.rt').read_text()
+    regions = [Region(0xf5007fe0, 32, 0, 'rw'), Region(0x7fe0, 32, 32, 'rx')]
+    named = {n: literal(v) for n, v in re.findall(r'let (\w+) =\s*b"((?:\\x[0-9a-f]{2})*)";', text)}
+    for label, rom, offset in re.findall(r'case\(\s*b"([^"]*)",\s*(b"[^"]*"|\w+),\s*(\d+),?\s*\);', text):
+        memory = bytearray([7] * 64)
+        data = named[rom] if rom in named else literal(rom)
+        out(label + srom_load(regions, memory, data, int(offset)))
+        out(memory.hex())
+    out('a map for a longer memory: ' + srom_load(regions, bytearray([7] * 8), b'\xff', 0))
+
+
+map_cases()
+srom_cases()

@@ -1,0 +1,114 @@
+"""An independent second program: the rules of paper 01 in Python, written from the paper and not from the specs.
+
+It makes the expected output of the program `cases` (see cases.py). Nothing of the product depends on it.
+"""
+
+
+class Refused(Exception):
+    def __init__(self, number, place=0):
+        self.number, self.place = number, place
+
+
+# ---- Memory map
+
+class Region:
+    def __init__(self, base, length, place, rights):
+        self.base, self.length, self.place, self.rights = base, length, place, rights
+
+    def addresses(self):
+        return range(self.base, self.base + self.length)
+
+    def places(self):
+        return range(self.place, self.place + self.length)
+
+
+def overlap(a, b):
+    return len(range(max(a.start, b.start), min(a.stop, b.stop))) > 0
+
+
+def rules_hold(regions):
+    if len(regions) > 8:
+        return False
+    for i, r in enumerate(regions):
+        if r.base % 4 or r.length % 4 or not 4 <= r.length <= 16777216 or r.base + r.length > 4294967280:
+            return False
+        for q in regions[:i]:
+            if overlap(r.addresses(), q.addresses()) or overlap(r.places(), q.places()):
+                return False
+    return True
+
+
+def add(regions, region):
+    """The map after the addition, and whether it was taken."""
+    longer = regions + [region]
+    return (longer, True) if rules_hold(longer) else (regions, False)
+
+
+def sound(regions, size):
+    return rules_hold(regions) and all(r.place + r.length <= size for r in regions)
+
+
+def permitted(regions, right, address, length):
+    """The buffer place of a non-empty range inside one region with the right, or None."""
+    if length > 0:
+        for r in regions:
+            if right in r.rights and r.base <= address and address + length <= r.base + r.length:
+                return r.place + address - r.base
+    return None
+
+
+def run_kind(regions, address):
+    """'ARM' or 'Thumb' for a legal run address, else None."""
+    if address % 2 == 1:
+        return 'Thumb' if permitted(regions, 'x', address - 1, 1) is not None else None
+    if address % 4 == 0:
+        return 'ARM' if permitted(regions, 'x', address, 1) is not None else None
+    return None
+
+
+# ---- Serial ROM
+
+def srom_load(regions, memory, rom, offset):
+    """The answer as text; memory (a bytearray) is changed only by an accepted load."""
+    try:
+        if not sound(regions, len(memory)):
+            raise Refused(1)
+        if len(rom) > 16777216:
+            raise Refused(13)
+        stores, at = [], offset
+        while True:
+            while at < len(rom) and rom[at] == 0x55:
+                at += 1
+            if at >= len(rom):
+                raise Refused(2, len(rom))
+            if rom[at] != 0x3a:
+                stop = 'end at %d' % at
+                break
+            if at + 7 > len(rom):
+                raise Refused(2, at)
+            words = int.from_bytes(rom[at + 1:at + 3], 'big')
+            address = int.from_bytes(rom[at + 3:at + 7], 'big')
+            after = at + 7 + 4 * words
+            if words == 0:
+                kind = run_kind(regions, address)
+                if kind is None:
+                    raise Refused(9, at)
+                stop = 'run %s %d, resume %d' % (kind, address, after)
+                break
+            if address % 4:
+                raise Refused(3, at)
+            if after > len(rom):
+                raise Refused(2, at)
+            place = permitted(regions, 'w', address, 4 * words)
+            if place is None:
+                raise Refused(4, at)
+            stores.append((place, [int.from_bytes(rom[k:k + 4], 'big') for k in range(at + 7, after, 4)]))
+            at = after
+    except Refused as r:
+        return 'refused %d at %d' % (r.number, r.place)
+    count = 0
+    for place, words in stores:
+        for k, word in enumerate(words):
+            memory[place + 4 * k:place + 4 * k + 4] = word.to_bytes(4, 'little')
+            count += 4
+    return '%s, taken %d, stored %d' % (stop, len(stores), count)
