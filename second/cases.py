@@ -5,7 +5,7 @@ second/compare holds crates/cases/stdout to it.
 """
 import re
 import pathlib
-from model import Region, add, sound, permitted, run_kind, srom_load
+from model import Region, add, sound, permitted, run_kind, srom_load, aplx_load
 
 SOURCE = pathlib.Path(__file__).resolve().parent.parent / 'crates' / 'cases' / 'src'
 
@@ -71,5 +71,34 @@ def srom_cases():
     out('a map for a longer memory: ' + srom_load(regions, bytearray([7] * 8), b'\xff', 0))
 
 
+# ---- APLX
+
+def numbers(text):
+    return [int(n.strip(), 0) for n in text.split(',') if n.strip()]
+
+
+def words_at(memory, at, words):
+    for k, word in enumerate(words):
+        memory[at + 4 * k:at + 4 * k + 4] = word.to_bytes(4, 'little')
+
+
+def aplx_cases():
+    text = (SOURCE / 'aplx_cases.rt').read_text()
+    regions = [Region(4096, 256, 0, 'rwx'), Region(8192, 64, 256, 'r')]
+    for label, at, words, header in re.findall(r'case\(\s*b"([^"]*)",\s*(\d+),\s*&\[([^\]]*)\],\s*(\d+),?\s*\);', text):
+        memory = bytearray([7] * 320)
+        words_at(memory, int(at), numbers(words))
+        out(label + aplx_load(regions, memory, int(header)))
+        out(memory.hex())
+    for label, count in re.findall(r'many\(b"([^"]*)", (\d+)\);', text):
+        memory = bytearray(8192)
+        for k in range(int(count)):
+            words_at(memory, 16 * k, [3, 65536 + 4160, 32, 5])
+        words_at(memory, 16 * int(count), [0xffffffff, 0, 0, 0])
+        out(label + aplx_load([Region(65536, 8192, 0, 'rwx')], memory, 65536))
+    out('a map for a longer memory: ' + aplx_load(regions, bytearray([7] * 8), 4098))
+
+
 map_cases()
 srom_cases()
+aplx_cases()

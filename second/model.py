@@ -112,3 +112,71 @@ def srom_load(regions, memory, rom, offset):
             memory[place + 4 * k:place + 4 * k + 4] = word.to_bytes(4, 'little')
             count += 4
     return '%s, taken %d, stored %d' % (stop, len(stores), count)
+
+
+# ---- APLX
+
+def aplx_load(regions, memory, header):
+    """The answer as text; memory (a bytearray) is changed only by an accepted load."""
+    def word(place):
+        return int.from_bytes(memory[place:place + 4], 'little')
+
+    def rounded(length):
+        return (length + 31) // 32 * 32
+
+    try:
+        if not sound(regions, len(memory)):
+            raise Refused(1)
+        if header % 4:
+            raise Refused(3)
+        actions, stop = [], None
+        for index in range(256):
+            address = header + 16 * index
+            place = permitted(regions, 'r', address, 16)
+            if place is None:
+                raise Refused(6, index)
+            command, x, y, z = (word(place + 4 * k) for k in range(4))
+            if command in (1, 2, 3):
+                length = rounded(y if command == 3 else z)
+                if length == 0:
+                    raise Refused(5, index)
+                if x % 4:
+                    raise Refused(3, index)
+                source = None
+                if command != 3:
+                    source = y if command == 1 else (address + y) % 2 ** 32
+                    if source % 4:
+                        raise Refused(3, index)
+                to = permitted(regions, 'w', x, length)
+                if to is None:
+                    raise Refused(4, index)
+                start = None
+                if command != 3:
+                    start = permitted(regions, 'r', source, length)
+                    if start is None:
+                        raise Refused(4, index)
+                actions.append((range(x, x + length), to, start, z))
+            elif command == 4:
+                kind = run_kind(regions, x)
+                if kind is None:
+                    raise Refused(9, index)
+                stop = 'run %s %d, resume %d' % (kind, x, address + 16)
+                break
+            else:
+                stop = 'end at %d' % index if command == 0xffffffff else 'unknown %d at %d' % (command, index)
+                break
+        if stop is None:
+            raise Refused(7, 256)
+        read = range(header, header + 16 * (len(actions) + 1))
+        for index, (destination, _, _, _) in enumerate(actions):
+            if overlap(destination, read):
+                raise Refused(8, index)
+    except Refused as r:
+        return 'refused %d at %d' % (r.number, r.place)
+    count = 0
+    for destination, to, start, fill in actions:
+        for k in range(0, len(destination), 4):
+            value = fill if start is None else word(start + k)
+            memory[to + k:to + k + 4] = value.to_bytes(4, 'little')
+            count += 4
+    return '%s, taken %d, stored %d' % (stop, len(actions), count)

@@ -1,4 +1,5 @@
 // The weighed cases, run and compared with the stored output.
+mod aplx_cases;
 mod map_cases;
 mod srom_cases;
 mod tell;
@@ -6,4 +7,5 @@ mod tell;
 fn main() {
     map_cases::run();
     srom_cases::run();
+    aplx_cases::run();
 }

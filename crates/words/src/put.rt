@@ -1,6 +1,7 @@
 // Numbers into the bytes of a slice at a place. Where they do not fit, the slice is left as it was.
 ghost use mathlib.Core.Path.{_≡_};
 ghost use mathlib.Core.List.{[], _∷_};
+ghost use lib.ListN.{length};
 ghost use Rattle.words.specs.Bytes.{littleEndian, bigEndian};
 ghost use Rattle.words.specs.Store.{storeIfFits};
 
@@ -64,4 +65,25 @@ pub fn be_word(s: &mut [u8], at: usize, n: u32)
         (n / 256 % 256) as u8,
         (n % 256) as u8,
     );
+}
+
+fn copy_all(part: &mut [u8], source: &[u8])
+    requires { ⌜ length (now part) ≡ length (now source) ⌝ }
+    ensures { λ _. ⌜ now (part .exit) ≡ now (source .entry) ⌝ }
+{
+    let mut i: usize = 0;
+    while i < source.len() {
+        part[i] = source[i];
+        i += 1;
+    }
+}
+
+// The bytes of another slice.
+pub fn bytes(s: &mut [u8], at: usize, source: &[u8])
+    ensures { λ _. ⌜ now (s .exit) ≡ storeIfFits (now (s .entry)) at (now (source .entry)) ⌝ }
+{
+    if crate::range::fits(at, source.len(), s.len()) {
+        let end = at + source.len();
+        copy_all(&mut s[at..end], source);
+    }
 }

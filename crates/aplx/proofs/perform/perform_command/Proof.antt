@@ -1,0 +1,134 @@
+-- `aplx::perform::perform_command` meets its contract: the ranges of a command that may be performed lie in memory, at the places that lookup gives.
+use mathlib.Core.Path.{_≡_, ap, _∙_}
+use lib.ListN.{length}
+use borrow.Author.Needs.{needs}
+use Rattle.memory_map.specs.declared.region.Right.the-variants.{Read, Write}
+use Rattle.memory_map.specs.Lookup.{lookup}
+use Rattle.memory_map.specs.Lookup.Laws.{lawful}
+use Rattle.aplx.specs.Walk.{placeOf}
+use Rattle.aplx.specs.Load.{perform}
+use Rattle.aplx.proofs.Storing.{range-inside}
+use Rattle.aplx.proofs.perform.perform_command.Statement.{statement}
+use Rattle.aplx.proofs.perform.perform_command.Tie as tie
+
+-- where a copy's destination stands in memory
+target : (c : tie.After-place)
+    → let k = c .before .before .before in
+    let f = k .command .given .0 in
+    c .place .result ≡ placeOf (lookup (k .before .before .before .args .map) Write (f .0) (f .1 .1 .0))
+target c = c .place .ensures ∙ ap placeOf (c .before .lookup .ensures)
+
+-- where its source stands
+source : (c : tie.After-place2)
+    → let k = c .before .before .before .before .before in
+    let f = k .command .given .0 in
+    c .place2 .result ≡ placeOf (lookup (k .before .before .before .args .map) Read (f .1 .0) (f .1 .1 .0))
+source c = c .place2 .ensures ∙ ap placeOf (c .before .lookup2 .ensures)
+
+-- where a fill's destination stands
+filled-target : (c : tie.After-place3)
+    → let k = c .before .before .before in
+    let f = k .command2 .given .0 in
+    c .place3 .result ≡ placeOf (lookup (k .before .before .before .args .map) Write (f .0) (f .1 .0))
+filled-target c = c .place3 .ensures ∙ ap placeOf (c .before .lookup3 .ensures)
+
+enum-known-command : tie.Need-enum-known-command
+enum-known-command c = search needs
+
+lookup-requires : tie.Need-lookup-requires
+lookup-requires c κs = search needs
+
+place-requires : tie.Need-place-requires
+place-requires c κs = search needs
+
+lookup-requires-2 : tie.Need-lookup-requires-2
+lookup-requires-2 c κs = search needs
+
+place-requires-2 : tie.Need-place-requires-2
+place-requires-2 c κs = search needs
+
+copy-words-requires : tie.Need-copy-words-requires
+copy-words-requires c κs =
+    let k = c .before .before .before .before .before .before in
+    let s = k .before .before .before in
+    let f = k .command .given .0 in
+    let g = rw (k .command .given .1) at (s .pre .1) in
+    let l = lawful (s .args .map) (length (s .args .memory .now)) (s .pre .0) in (
+      range-inside l Write (f .0) (f .1 .1 .0) (target (c .before .before .before)) (g .0),
+      range-inside l Read (f .1 .0) (f .1 .1 .0) (source (c .before)) (g .1),
+      g .2,
+    )
+
+enum-known-command-2 : tie.Need-enum-known-command-2
+enum-known-command-2 c = search needs
+
+lookup-requires-3 : tie.Need-lookup-requires-3
+lookup-requires-3 c κs = search needs
+
+place-requires-3 : tie.Need-place-requires-3
+place-requires-3 c κs = search needs
+
+fill-words-requires : tie.Need-fill-words-requires
+fill-words-requires c κs =
+    let k = c .before .before .before .before in
+    let s = k .before .before .before in
+    let f = k .command2 .given .0 in
+    let g = rw (k .command2 .given .1) at (s .pre .1) in
+    let l = lawful (s .args .map) (length (s .args .memory .now)) (s .pre .0) in
+    (range-inside l Write (f .0) (f .1 .0) (filled-target (c .before)) (g .0), g .1)
+
+enum-told : tie.Need-enum-told
+enum-told c = search needs
+
+enum-told-2 : tie.Need-enum-told-2
+enum-told-2 c = search needs
+
+same-length : tie.Need-same-length
+same-length c = search needs
+
+returns : tie.Need-returns
+unfolding perform
+returns c =
+    let p = c .before .before .before .before in
+    let t = p .before .before in
+    simp (t .before .before .before .command .given .1, ← target t, ← source p) (c .before .before .copy-words .ensures)
+
+same-length-2 : tie.Need-same-length-2
+same-length-2 c = search needs
+
+returns-2 : tie.Need-returns-2
+unfolding perform
+returns-2 c =
+    let t = c .before .before .before .before in
+    simp (t .before .before .before .command2 .given .1, ← filled-target t) (c .before .before .fill-words .ensures)
+
+returns-3 : tie.Need-returns-3
+unfolding perform
+returns-3 c = simp (c .enum-told .given .1)
+
+returns-4 : tie.Need-returns-4
+unfolding perform
+returns-4 c = simp (c .enum-told2 .given .1)
+
+pub perform-command-spec : {M : Type 1} → statement M
+perform-command-spec =
+    tie.close
+    (tie.spec
+    enum-known-command
+    lookup-requires
+    place-requires
+    lookup-requires-2
+    place-requires-2
+    copy-words-requires
+    enum-known-command-2
+    lookup-requires-3
+    place-requires-3
+    fill-words-requires
+    enum-told
+    enum-told-2
+    same-length
+    returns
+    same-length-2
+    returns-2
+    returns-3
+    returns-4)

@@ -1,0 +1,46 @@
+// Copies and fills.
+ghost use mathlib.Core.Path.{_≡_};
+ghost use Prim.Native.Nat.{_+_, _/_, _%_, _≤_};
+ghost use lib.ListN.{length};
+ghost use Rattle.words.specs.Repeat.{repeated};
+ghost use Rattle.words.specs.Store.{store};
+ghost use Rattle.aplx.specs.Copy.{copied};
+
+// `size` bytes from one place to another, word by word, lowest first.
+pub(crate) fn copy_words(memory: &mut [u8], to: usize, from: usize, size: usize)
+    requires { ⌜ (to + size ≤ length (now memory)) × (from + size ≤ length (now memory)) × (size % 4 ≡ 0) ⌝ }
+    ensures { λ _. ⌜ now (memory .exit) ≡ copied size to from (now (memory .entry)) ⌝ }
+{
+    let n = size / 4;
+    let mut i: usize = 0;
+    while i < n {
+        let s = from + i * 4;
+        let d = to + i * 4;
+        let a = memory[s];
+        let b = memory[s + 1];
+        let c = memory[s + 2];
+        let e = memory[s + 3];
+        memory[d] = a;
+        memory[d + 1] = b;
+        memory[d + 2] = c;
+        memory[d + 3] = e;
+        i += 1;
+    }
+}
+
+// A word repeated over `size` bytes from a place on, Little Endian.
+pub(crate) fn fill_words(memory: &mut [u8], to: usize, size: usize, word: u32)
+    requires { ⌜ (to + size ≤ length (now memory)) × (size % 4 ≡ 0) ⌝ }
+    ensures { λ _. ⌜ now (memory .exit) ≡ store (now (memory .entry)) to (repeated (size / 4) word) ⌝ }
+{
+    let n = size / 4;
+    let mut i: usize = 0;
+    while i < n {
+        let at = to + i * 4;
+        memory[at] = (word % 256) as u8;
+        memory[at + 1] = (word / 256 % 256) as u8;
+        memory[at + 2] = (word / 65536 % 256) as u8;
+        memory[at + 3] = (word / 16777216 % 256) as u8;
+        i += 1;
+    }
+}
