@@ -5,7 +5,7 @@ second/compare holds crates/cases/stdout to it.
 """
 import re
 import pathlib
-from model import Region, add, sound, permitted, run_kind, srom_load, aplx_load
+from model import Region, add, sound, permitted, run_kind, srom_load, aplx_load, scp_answer
 
 SOURCE = pathlib.Path(__file__).resolve().parent.parent / 'crates' / 'cases' / 'src'
 
@@ -99,6 +99,25 @@ def aplx_cases():
     out('a map for a longer memory: ' + aplx_load(regions, bytearray([7] * 8), 4098))
 
 
+# ---- SCP
+
+def scp_cases():
+    text = (SOURCE / 'scp_cases.rt').read_text()
+    regions = [Region(4096, 256, 0, 'rwx'), Region(8192, 64, 256, 'r')]
+    identity = (258, 3, 4, 129, 84281096)
+    memory = bytearray([7] * 320)
+    for label, packet in re.findall(r'case\(\s*map,\s*memory,\s*b"([^"]*)",\s*(b"[^"]*"|&long),?\s*\);', text):
+        output = bytearray([0xee] * 272)
+        data = bytes([2] * 273) if packet == '&long' else literal(packet)
+        out(label + scp_answer(regions, memory, identity, data, output))
+        out(output[:40].hex())
+        out(memory[:160].hex())
+    out('output of 271 bytes, and a map for a longer memory: '
+        + scp_answer(regions, memory[:8], identity, b'\x00\x00\x11\x22', bytearray(271)))
+    out('a map for a longer memory: ' + scp_answer(regions, memory[:8], identity, b'\x00', bytearray(272)))
+
+
 map_cases()
 srom_cases()
 aplx_cases()
+scp_cases()

@@ -180,3 +180,62 @@ def aplx_load(regions, memory, header):
             memory[to + k:to + k + 4] = value.to_bytes(4, 'little')
             count += 4
     return '%s, taken %d, stored %d' % (stop, len(actions), count)
+
+
+# ---- SCP
+
+def scp_answer(regions, memory, identity, packet, output):
+    """The reply as text; memory and output (bytearrays) are changed as the packet asks."""
+    def word(at):
+        return int.from_bytes(packet[at:at + 4], 'little')
+
+    def reply(code, rest=b''):
+        response = code.to_bytes(2, 'little') + bytes(packet[2:4]) + rest
+        output[:len(response)] = response
+        return 'response of %d' % len(response)
+
+    ok, length_error, command_error, argument_error = 0x80, 0x81, 0x83, 0x84
+    if len(output) < 272:
+        return 'refused 10 at 0'
+    if not sound(regions, len(memory)):
+        return 'refused 1 at 0'
+    if len(packet) < 4:
+        return 'no response'
+    if len(packet) > 272:
+        return reply(length_error)
+    command = int.from_bytes(packet[0:2], 'little')
+    if command > 4:
+        return reply(command_error)
+    if len(packet) < {0: 4, 1: 8, 2: 16, 3: 16, 4: 8}[command]:
+        return reply(length_error)
+    if command == 0:
+        node, physical, virtual, version, date = identity
+        numbers = (node << 16 | physical << 8 | virtual, version << 16 | 256, date)
+        return reply(ok, b''.join(n.to_bytes(4, 'little') for n in numbers) + b'SARK/SpiNNaker\0')
+    if command == 1:
+        kind = run_kind(regions, word(4))
+        return reply(argument_error) if kind is None else 'run %s %d' % (kind, word(4))
+    if command == 4:
+        answer = aplx_load(regions, memory, word(4))
+        if answer.startswith('refused'):
+            return reply(argument_error)
+        if answer.startswith('run'):
+            return answer.split(', taken')[0]
+        return reply(ok)
+    address, size, kind = word(4), word(8), word(12)
+    if size > 256 or kind > 2:
+        return reply(argument_error)
+    if command == 3 and len(packet) != 16 + size:
+        return reply(length_error)
+    unit = (1, 2, 4)[kind]
+    if address % unit or size % unit:
+        return reply(argument_error)
+    if size == 0:
+        return reply(ok)
+    place = permitted(regions, 'r' if command == 2 else 'w', address, size)
+    if place is None:
+        return reply(argument_error)
+    if command == 2:
+        return reply(ok, bytes(memory[place:place + size]))
+    memory[place:place + size] = packet[16:]
+    return reply(ok)

@@ -4,7 +4,7 @@ use memory_map::map::Map;
 use memory_map::region::Region;
 use memory_map::region::Rights;
 
-fn two_regions() -> Map {
+pub(crate) fn two_regions() -> Map {
     let every = Rights {
         read: true,
         write: true,

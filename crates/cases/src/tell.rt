@@ -8,6 +8,7 @@ use memory_map::map::Found;
 use memory_map::map::Map;
 use memory_map::map::RunEntry;
 use memory_map::map::Verdict;
+use scp::answer::Reply;
 
 pub(crate) fn text(t: &[u8]) {
     io::write_all(STDOUT_FILENO, t);
@@ -23,16 +24,22 @@ fn digit(n: u8) -> u8 {
     if low < 10 { 48 + low } else { 87 + low }
 }
 
-// The bytes in hex, on one line.
-pub(crate) fn bytes(s: &[u8]) {
+// The first bytes in hex, on one line, as many as there are.
+pub(crate) fn front(s: &[u8], n: usize) {
     let mut i: usize = 0;
-    while i < s.len() {
-        let b = s[i];
-        let pair = [digit(b / 16), digit(b)];
-        text(&pair);
+    while i < n {
+        if i < s.len() {
+            let b = s[i];
+            let pair = [digit(b / 16), digit(b)];
+            text(&pair);
+        }
         i += 1;
     }
     text(b"\n");
+}
+
+pub(crate) fn bytes(s: &[u8]) {
+    front(s, s.len());
 }
 
 pub(crate) fn refusal(r: Refusal) {
@@ -137,6 +144,30 @@ pub(crate) fn answer(a: Answer) {
             number(taken as u64);
             text(b", stored ");
             number(stored);
+            text(b"\n");
+        }
+    }
+}
+
+pub(crate) fn reply(r: Reply) {
+    match r {
+        Reply::Refused(r) => refusal(r),
+        Reply::Silent => text(b"no response\n"),
+        Reply::Response { size } => {
+            text(b"response of ");
+            number(size as u64);
+            text(b"\n");
+        }
+        Reply::Run { entry: e } => {
+            text(b"run ");
+            entry(e);
+            text(b"\n");
+        }
+        Reply::Load { entry: e, resume } => {
+            text(b"run ");
+            entry(e);
+            text(b", resume ");
+            number(resume as u64);
             text(b"\n");
         }
     }

@@ -96,6 +96,14 @@ module _ (m : List ℕ) (p : ℕ) (d : List ℕ) (fits : p + length d ≤ length
   unfolding store
   store-over q e h g = rw (take-store q h, drop-store (q + length e) g)
 
+-- a store at n that fits and adjoins one before it is one store with that one
+pub store-behind : (m : List ℕ) (p : ℕ) (d e : List ℕ) (n : ℕ) (r s : List ℕ) → p + length d ≡ n → n + length e ≤ length m
+    → r ≡ store m p d → s ≡ storeIfFits r n e → s ≡ store m p (d ++ e)
+store-behind m p d e n r s x y f g =
+    let h : p + length d ≤ length m = omega arith in
+    let k : n + length e ≤ length r = omega (arith, ap length f ∙ length-store m p d h) in
+    g ∙ store-fits r n e k ∙ rw (f, ← x) (store-adjoining m p d h e)
+
 -- ---- two stores that share no place commute
 module _ (m : List ℕ) (p : ℕ) (d : List ℕ) (q : ℕ) (e : List ℕ) (x : p + length d ≤ length m) (y : q + length e ≤ length m) where
   fits-behind : q + length e ≤ length (store m p d)

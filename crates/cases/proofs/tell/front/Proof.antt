@@ -1,15 +1,14 @@
--- `cases::tell::bytes` is safe and ends: a turn for each byte.
+-- `cases::tell::front` is safe and ends: a turn for each byte.
 use borrow.Author.Needs.{needs}
 use Prim.Native.Nat.{_-_}
-use lib.ListN.{length}
-use Rattle.cases.proofs.tell.bytes.Statement.{statement}
-use Rattle.cases.proofs.tell.bytes.Tie as tie
+use Rattle.cases.proofs.tell.front.Statement.{statement}
+use Rattle.cases.proofs.tell.front.Tie as tie
 
 abbrev Inv-loop : tie.InvT-loop
-Inv-loop s i₀ t5 i = Unit {0}
+Inv-loop s n i₀ t6 i = Unit {0}
 
 abbrev μ-loop : tie.MeasureT-loop
-μ-loop s i₀ t5 i = length s - i
+μ-loop s n i₀ t6 i = n - i
 
 loop-holds : tie.Need-loop-holds Inv-loop μ-loop
 loop-holds c = search needs
@@ -47,8 +46,8 @@ text-requires-2 c κs = search needs
 returns : tie.Need-returns Inv-loop μ-loop
 returns c = search needs
 
-pub bytes-spec : {M : Type 1} → statement M
-bytes-spec =
+pub front-spec : {M : Type 1} → statement M
+front-spec =
     tie.close
     (tie.spec
     Inv-loop

@@ -1,0 +1,103 @@
+// READ and WRITE.
+ghost use mathlib.Core.Path.{_≡_};
+ghost use mathlib.Core.Bool.{true};
+ghost use Prim.Native.Nat.{_+_, _≤_};
+ghost use lib.ListN.{length};
+ghost use Rattle.memory_map.specs.declared.region.Right.the-variants as right;
+ghost use Rattle.memory_map.specs.Map.{sound};
+ghost use Rattle.memory_map.specs.Lookup.{lookup};
+ghost use Rattle.scp.specs.Packet.{arg1, arg2};
+ghost use Rattle.scp.specs.Answer.{readReaction, readPacket, writeReaction, writeWhole, writePacket, answered};
+ghost use Rattle.scp.specs.Code.{replyOf};
+use crate::answer::Reply;
+use crate::packet::is_misaligned;
+use crate::packet::is_too_large;
+use crate::packet::word_at;
+use memory_map::map::Found;
+use memory_map::map::Map;
+use memory_map::region::Right;
+
+// The bytes of a range, where it is permitted.
+fn read_range(map: Map, memory: &[u8], packet: &[u8], output: &mut [u8]) -> Reply
+    requires { ⌜ (16 ≤ length (now packet)) × (272 ≤ length (now output)) × (sound map (length (now memory)) ≡ true) × (arg2 (now packet) ≤ 256) ⌝ }
+    ensures { λ r. ⌜ record { reply = replyOf r; memory = now (memory .entry); output = now (output .exit) } ≡ answered (readReaction (lookup map right.Read (arg1 (now (packet .entry))) (arg2 (now (packet .entry)))) (now (packet .entry)) (now (memory .entry))) (now (output .entry)) ⌝ }
+{
+    let address = word_at(packet, 4);
+    let size = word_at(packet, 8) as usize;
+    match map.lookup(Right::Read, address, size as u64) {
+        Found::At(place) => {
+            let end = place + size;
+            crate::reply::coded(0x80, packet, output);
+            words::put::bytes(output, 4, &memory[place..end]);
+            Reply::Response { size: 4 + size }
+        }
+        Found::Refused(_) => crate::reply::coded(0x84, packet, output),
+    }
+}
+
+// A READ packet.
+pub(crate) fn read(map: Map, memory: &[u8], packet: &[u8], output: &mut [u8]) -> Reply
+    requires { ⌜ (4 ≤ length (now packet)) × (272 ≤ length (now output)) × (sound map (length (now memory)) ≡ true) ⌝ }
+    ensures { λ r. ⌜ record { reply = replyOf r; memory = now (memory .entry); output = now (output .exit) } ≡ answered (readPacket (lookup map) (now (packet .entry)) (now (memory .entry))) (now (output .entry)) ⌝ }
+{
+    if packet.len() < 16 {
+        return crate::reply::coded(0x81, packet, output);
+    }
+    if is_too_large(packet) {
+        return crate::reply::coded(0x84, packet, output);
+    }
+    if is_misaligned(packet) {
+        return crate::reply::coded(0x84, packet, output);
+    }
+    if word_at(packet, 8) == 0 {
+        return crate::reply::coded(0x80, packet, output);
+    }
+    read_range(map, memory, packet, output)
+}
+
+// The packet's data into a range, where it is permitted.
+fn write_range(map: Map, memory: &mut [u8], packet: &[u8], output: &mut [u8]) -> Reply
+    requires { ⌜ (272 ≤ length (now output)) × (sound map (length (now memory)) ≡ true) × (length (now packet) ≡ 16 + arg2 (now packet)) ⌝ }
+    ensures { λ r. ⌜ record { reply = replyOf r; memory = now (memory .exit); output = now (output .exit) } ≡ answered (writeReaction (lookup map right.Write (arg1 (now (packet .entry))) (arg2 (now (packet .entry)))) (now (packet .entry)) (now (memory .entry))) (now (output .entry)) ⌝ }
+{
+    let address = word_at(packet, 4);
+    let size = word_at(packet, 8) as u64;
+    match map.lookup(Right::Write, address, size) {
+        Found::At(place) => {
+            words::put::bytes(memory, place, &packet[16..]);
+            crate::reply::coded(0x80, packet, output)
+        }
+        Found::Refused(_) => crate::reply::coded(0x84, packet, output),
+    }
+}
+
+// The tests of a WRITE packet that has its three arguments, and fits its length.
+fn write_whole(map: Map, memory: &mut [u8], packet: &[u8], output: &mut [u8]) -> Reply
+    requires { ⌜ (272 ≤ length (now output)) × (sound map (length (now memory)) ≡ true) × (length (now packet) ≡ 16 + arg2 (now packet)) ⌝ }
+    ensures { λ r. ⌜ record { reply = replyOf r; memory = now (memory .exit); output = now (output .exit) } ≡ answered (writeWhole (lookup map) (now (packet .entry)) (now (memory .entry))) (now (output .entry)) ⌝ }
+{
+    if is_misaligned(packet) {
+        return crate::reply::coded(0x84, packet, output);
+    }
+    if word_at(packet, 8) == 0 {
+        return crate::reply::coded(0x80, packet, output);
+    }
+    write_range(map, memory, packet, output)
+}
+
+// A WRITE packet.
+pub(crate) fn write(map: Map, memory: &mut [u8], packet: &[u8], output: &mut [u8]) -> Reply
+    requires { ⌜ (4 ≤ length (now packet)) × (272 ≤ length (now output)) × (sound map (length (now memory)) ≡ true) ⌝ }
+    ensures { λ r. ⌜ record { reply = replyOf r; memory = now (memory .exit); output = now (output .exit) } ≡ answered (writePacket (lookup map) (now (packet .entry)) (now (memory .entry))) (now (output .entry)) ⌝ }
+{
+    if packet.len() < 16 {
+        return crate::reply::coded(0x81, packet, output);
+    }
+    if is_too_large(packet) {
+        return crate::reply::coded(0x84, packet, output);
+    }
+    if packet.len() != 16 + word_at(packet, 8) as usize {
+        return crate::reply::coded(0x81, packet, output);
+    }
+    write_whole(map, memory, packet, output)
+}
