@@ -9,7 +9,7 @@ use lib.Dec.{leb, ltb, eqb}
 use lib.ListN.{length, take, drop, getD, length-drop, drop-of-length-le}
 use lib.Seq.{drop-cons, length-take-le}
 use borrow.Author.Tests.{leb-true, leb-false, ltb-false, eqb-true, eqb-false, not-false, eq-eqb, ne-eqb}
-use Rattle.words.specs.Choice.{if_then_else_}
+use Rattle.words.specs.Choice.Laws.{from-else, from-then}
 use Rattle.words.specs.Bytes.{bigEndianAt}
 use Rattle.words.specs.Swap.{swapWords}
 use Rattle.words.specs.Swap.Laws.{length-swap}
@@ -67,16 +67,6 @@ pads-end-other s o = go (pads s o)
     go {o} (past h) = rw (pads-past s o h) (λ g e. omega arith)
 
 -- ---- facts of what stands at an offset
--- a choice that gives z where one of its arms does not
-module _ {x y z : Item} where
-  from-else : (t : Bool) → (x ≡ z → ⊥) → (if t then x else y) ≡ z → (t ≡ false) × (y ≡ z)
-  from-else true n e = absurd (n e)
-  from-else false n e = (refl, e)
-
-  from-then : (t : Bool) → (y ≡ z → ⊥) → (if t then x else y) ≡ z → (t ≡ true) × (x ≡ z)
-  from-then true n e = (refl, e)
-  from-then false n e = absurd (n e)
-
 halt-no-pad : {x : Ending} → halt x ≡ pad → ⊥
 halt-no-pad e = let z : _≡_ {A = ℕ} 0 1 = cc in omega arith
 

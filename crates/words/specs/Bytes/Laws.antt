@@ -1,12 +1,12 @@
 -- Laws of numbers as bytes, over the width.
 use mathlib.Core.Path.{_≡_, refl, ap, sym, _∙_}
 use mathlib.Core.List.{List, [], _∷_, _++_, reverse, reverse-reverse}
-use Prim.Native.Nat.{ℕ, zero, suc, _+_, _*_, _/_, _%_, _^_, _≤_, _<_}
+use Prim.Native.Nat.{ℕ, zero, suc, _+_, _*_, _-_, _/_, _%_, _^_, _≤_, _<_}
 use native.Mathlib.Nat.{pow-suc, div-div-eq-div-mul}
 use native.Mathlib.Omega.{arith}
-use lib.ListN.{length, take, drop, getD, length-append, length-drop, length-reverse}
-use lib.Seq.{drop-drop, drop-append-add, getD-drop, take-at}
-use Rattle.words.specs.Choice.Laws.{all-reverse}
+use lib.ListN.{length, take, drop, getD, length-append, length-drop, length-reverse, drop-of-length-le}
+use lib.Seq.{drop-drop, drop-append-add, getD-drop, take-all, take-at}
+use Rattle.words.specs.Choice.Laws.{all-drop, all-reverse}
 use Rattle.words.specs.Bytes.{littleEndian, bigEndian, fromLittleEndian, fromBigEndian, firstBytes, littleEndianAt, bigEndianAt, Bytes}
 
 -- ---- widths
@@ -98,6 +98,12 @@ first-four s =
     rw
     (first-one 3 s, first-one 2 (drop 1 s), drop-drop 1 1 s, first-one 1 (drop 2 s), drop-drop 1 2 s, first-one 0 (drop 3 s), getD-drop 1 s 0 0, getD-drop 2 s 0 0, getD-drop 3 s 0 0)
 
+pub first-bytes : (k : ℕ) (s : List ℕ) → Bytes s → Bytes (firstBytes k s)
+unfolding firstBytes
+first-bytes zero s h = tt
+first-bytes (suc k) [] h = (omega arith, first-bytes k [] tt)
+first-bytes (suc k) (b ∷ s) h = (h .0, first-bytes k s (h .1))
+
 pub first-of-take : (k n : ℕ) (s : List ℕ) → k ≤ n → firstBytes k (take n s) ≡ firstBytes k s
 unfolding firstBytes
 first-of-take zero n s h = refl
@@ -106,6 +112,11 @@ first-of-take (suc k) (suc n) [] h = refl
 first-of-take (suc k) (suc n) (b ∷ s) h = ap (λ (l : List ℕ). b ∷ l) (first-of-take k n s (omega arith))
 
 -- ---- the number at a place
+pub little-at-below : (k p : ℕ) (s : List ℕ) → Bytes s → littleEndianAt k s p < 256 ^ k
+unfolding littleEndianAt
+little-at-below k p s h =
+    rw (length-firstBytes k (drop p s)) at (from-below (firstBytes k (drop p s)) (first-bytes k (drop p s) (all-drop _ p s h)))
+
 -- of a part of n bytes that begins at a
 module _ (k a n : ℕ) (s : List ℕ) (h : k ≤ n) where
   pub little-at-part : littleEndianAt k (take n (drop a s)) 0 ≡ littleEndianAt k s a
@@ -115,6 +126,20 @@ module _ (k a n : ℕ) (s : List ℕ) (h : k ≤ n) where
   pub big-at-part : bigEndianAt k (take n (drop a s)) 0 ≡ bigEndianAt k s a
   unfolding bigEndianAt
   big-at-part = ap fromBigEndian (first-of-take k n (drop a s) h)
+
+-- of all that stands from a on, which may be fewer than k bytes
+pub little-at-rest : (k a : ℕ) (s : List ℕ) → littleEndianAt k (take (length s - a) (drop a s)) 0 ≡ littleEndianAt k s a
+unfolding littleEndianAt
+little-at-rest k a s = rw (take-all (length s - a) (drop a s) (omega (arith, length-drop a s)))
+
+-- past the end
+pub little-at-past : (k a : ℕ) (s : List ℕ) → length s ≤ a → littleEndianAt k s a ≡ 0
+unfolding littleEndianAt fromLittleEndian firstBytes
+little-at-past k a s h = rw (drop-of-length-le s h) (zeros k)
+  where
+    zeros : (k : ℕ) → fromLittleEndian (firstBytes k []) ≡ 0
+    zeros zero = refl
+    zeros (suc k) = rw (zeros k)
 
 -- of a part that begins at a
 module _ (k a p : ℕ) (s : List ℕ) where

@@ -7,7 +7,7 @@ use native.Mathlib.Omega.{arith}
 use lib.Dec.{leb}
 use lib.ListN.{take, drop, getD}
 use borrow.Author.Tests.{leb-true, le-leb}
-use Rattle.words.specs.Choice.{All, every}
+use Rattle.words.specs.Choice.{if_then_else_, All, every}
 
 -- ---- tests
 pub true-is-false : {A : Type 0} → true ≡ false → A
@@ -26,6 +26,22 @@ leb-same a b c d f g =
 pub both : (s t : Bool) → (s && t) ≡ true → (s ≡ true) × (t ≡ true)
 both true t e = (refl, e)
 both false t e = true-is-false (sym e)
+
+-- a choice that gives z
+module _ {A : Type 0} {x y z : A} where
+  -- where its first arm does not
+  pub from-else : (t : Bool) → (x ≡ z → ⊥) → (if t then x else y) ≡ z → (t ≡ false) × (y ≡ z)
+  from-else true n e = absurd (n e)
+  from-else false n e = (refl, e)
+
+  -- where its second arm does not
+  pub from-then : (t : Bool) → (y ≡ z → ⊥) → (if t then x else y) ≡ z → (t ≡ true) × (x ≡ z)
+  from-then true n e = (refl, e)
+  from-then false n e = absurd (n e)
+
+  pub from-either : {B : Type 0} (t : Bool) → (x ≡ z → B) → (y ≡ z → B) → (if t then x else y) ≡ z → B
+  from-either true f g e = f e
+  from-either false f g e = g e
 
 -- ---- every element
 pub every-all : {A : Type 0} (t : A → Bool) (l : List A) → every t l ≡ true → All (λ x. t x ≡ true) l

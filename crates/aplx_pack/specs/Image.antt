@@ -1,0 +1,41 @@
+-- The APLX image of a list of pieces (paper 01, "Plans", last paragraph), and what packing a plan gives.
+pub mod Laws
+use mathlib.Core.List.{List, [], _∷_, _++_}
+use Prim.Native.Nat.{ℕ, suc, _+_, _*_}
+use lib.ListN.{length}
+use Rattle.words.specs.Bytes.{littleEndian}
+use Rattle.plan.specs.Plan.{Piece, put, fill, run, readPlan}
+use Rattle.plan.specs.Packed.{Packed, packedAs}
+
+-- four Little Endian words
+unfoldable pub entry : ℕ → ℕ → ℕ → ℕ → List ℕ
+entry c x y z = littleEndian 4 c ++ (littleEndian 4 x ++ (littleEndian 4 y ++ littleEndian 4 z))
+
+-- "one entry per piece in plan order (RCOPY, FILL, EXEC; unused words zero)"; the data of a put lies off bytes behind its entry's start
+unfoldable pub entryOf : Piece → ℕ → List ℕ
+entryOf (put a d) off = entry 2 a off (length d)
+entryOf (fill a n w) off = entry 3 a n w
+entryOf (run a) off = entry 4 a 0 0
+
+abbrev pub dataOf : Piece → List ℕ
+dataOf (put a d) = d
+dataOf (fill a n w) = []
+dataOf (run a) = []
+
+-- the entries of pieces, and "an end entry of 0xFFFFFFFF and three zeros". Behind the first entry come those of the other pieces, the
+-- end entry, and so many bytes of data of earlier pieces
+unfoldable pub entries : ℕ → List Piece → List ℕ
+entries earlier [] = entry 0xffffffff 0 0 0
+entries earlier (p ∷ ps) = entryOf p (16 * suc (suc (length ps)) + earlier) ++ entries (earlier + length (dataOf p)) ps
+
+-- "then the data of the puts in order"
+unfoldable pub datas : List Piece → List ℕ
+datas [] = []
+datas (p ∷ ps) = dataOf p ++ datas ps
+
+unfoldable pub aplxImage : List Piece → List ℕ
+aplxImage ps = entries 0 ps ++ datas ps
+
+-- what packing a plan gives, for an output of n bytes
+unfoldable pub packAplx : List ℕ → ℕ → Packed
+packAplx s n = packedAs aplxImage (readPlan 32 s) n

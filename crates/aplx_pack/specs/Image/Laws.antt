@@ -1,0 +1,76 @@
+-- Laws of the APLX image: its length, and what stands at a piece's entry and where its data lies.
+use mathlib.Core.Path.{_≡_, refl, sym}
+use mathlib.Core.List.{List, [], _∷_, _++_, append-assoc, append-nil}
+use Prim.Native.Nat.{ℕ, zero, suc, _+_, _*_, _≤_}
+use native.Mathlib.Omega.{arith}
+use lib.ListN.{length, take, drop, length-append}
+use lib.Seq.{take-at, drop-at, drop-drop}
+use Rattle.words.specs.Bytes.Laws.{length-littleEndian}
+use Rattle.plan.specs.Plan.{Piece, put, fill, run}
+use Rattle.aplx_pack.specs.Image.{entry, entryOf, dataOf, entries, datas, aplxImage}
+
+-- ---- lengths
+pub length-entry : (c x y z : ℕ) → length (entry c x y z) ≡ 16
+unfolding entry
+length-entry c x y z = simp (length-append, length-littleEndian)
+
+pub length-entryOf : (p : Piece) (off : ℕ) → length (entryOf p off) ≡ 16
+unfolding entryOf
+length-entryOf (put a d) off = length-entry 2 a off (length d)
+length-entryOf (fill a n w) off = length-entry 3 a n w
+length-entryOf (run a) off = length-entry 4 a 0 0
+
+pub length-entries : (k : ℕ) (ps : List Piece) → length (entries k ps) ≡ 16 * suc (length ps)
+unfolding entries
+length-entries k [] = length-entry 0xffffffff 0 0 0
+length-entries k (p ∷ ps) = rw (length-append, length-entryOf, length-entries (k + length (dataOf p)) ps) (omega arith)
+
+-- the lengths of the puts
+unfoldable pub putBytes : List Piece → ℕ
+putBytes [] = 0
+putBytes (p ∷ ps) = length (dataOf p) + putBytes ps
+
+pub length-datas : (ps : List Piece) → length (datas ps) ≡ putBytes ps
+unfolding datas putBytes
+length-datas [] = refl
+length-datas (p ∷ ps) = rw (length-append, length-datas ps)
+
+-- "Length: 16 x (count + 1) + the put lengths."
+pub length-aplxImage : (ps : List Piece) → length (aplxImage ps) ≡ 16 * suc (length ps) + putBytes ps
+unfolding aplxImage
+length-aplxImage ps = rw (length-append, length-entries, length-datas)
+
+-- ---- places
+-- from the entry of a piece on: the entries of the pieces ps from it on, the data d of the earlier puts, and theirs
+abbrev pub tail : List ℕ → List Piece → List ℕ
+tail d ps = entries (length d) ps ++ (d ++ datas ps)
+
+pub tail-step : (d : List ℕ) (p : Piece) (ps : List Piece)
+    → tail d (p ∷ ps) ≡ entryOf p (16 * suc (suc (length ps)) + length d) ++ tail (d ++ dataOf p) ps
+unfolding entries datas
+tail-step d p ps = simp (append-assoc, length-append)
+
+pub image-tail : (ps : List Piece) → aplxImage ps ≡ tail [] ps
+unfolding aplxImage
+image-tail ps = refl
+
+-- the data of a put lies as far behind its entry's start as the entry says
+pub put-data : (d : List ℕ) (a : ℕ) (b : List ℕ) (ps : List Piece)
+    → take (length b) (drop (16 * suc (suc (length ps)) + length d) (tail d (put a b ∷ ps))) ≡ b
+unfolding datas
+put-data d a b ps =
+    let f = entries (length d) (put a b ∷ ps) ++ d in
+    let l : length f ≡ 16 * suc (suc (length ps)) + length d = rw (length-append, length-entries) in
+    let e : tail d (put a b ∷ ps) ≡ f ++ (b ++ datas ps) = sym (append-assoc (entries (length d) (put a b ∷ ps)) d (b ++ datas ps)) in
+    rw (e, drop-at f (b ++ datas ps) _ l) (take-at b (datas ps) (length b) refl)
+
+-- what stands at the entry of piece i: the entries of the pieces from i on, then all the data. At the count it is the end entry
+pub at-entry : (ps : List Piece) (i : ℕ) (d : List ℕ) → i ≤ length ps → drop (16 * i) (tail d ps) ≡ tail (d ++ datas (take i ps)) (drop i ps)
+unfolding datas
+at-entry ps zero d h = rw (append-nil d)
+at-entry [] (suc i) d h = absurd (omega arith)
+at-entry (p ∷ ps) (suc i) d h =
+    let off = 16 * suc (suc (length ps)) + length d in
+    let k : 16 * suc i ≡ 16 + 16 * i = omega arith in
+    let s : drop 16 (tail d (p ∷ ps)) ≡ tail (d ++ dataOf p) ps = rw (tail-step d p ps) (drop-at (entryOf p off) (tail (d ++ dataOf p) ps) 16 (length-entryOf p off)) in
+    rw (k, ← drop-drop (16 * i) 16 (tail d (p ∷ ps)), s, at-entry ps i (d ++ dataOf p) (omega arith), append-assoc)

@@ -1,0 +1,92 @@
+-- `plan::read::read` meets its contract: the tests of the header as the code makes them, and then the pieces.
+use native.Mathlib.Omega.{arith}
+use borrow.Author.Needs.{needs}
+use borrow.Author.Tests.{lt-ltb, le-ltb}
+use Prim.Native.Nat.{_+_, _*_}
+use lib.ListN.{length}
+use Rattle.plan.specs.Plan.{countOf, tableOf, dataAt, dataLength, readPlan}
+use Rattle.plan.proofs.read.read.Statement.{statement}
+use Rattle.plan.proofs.read.read.Tie as tie
+
+returns : tie.Need-returns
+unfolding readPlan
+returns c = let s = c .before .before .args .plan .now in
+    rw (lt-ltb (length s) 16 (omega arith))
+
+word-at-requires : tie.Need-word-at-requires
+word-at-requires c κs = search needs
+
+returns-2 : tie.Need-returns-2
+unfolding readPlan
+returns-2 c = let s = c .before .before .before .before .args .plan .now in
+    rw (le-ltb (length s) 16 (omega arith), lt-ltb 64 (countOf s) (omega arith))
+
+word-at-requires-2 : tie.Need-word-at-requires-2
+word-at-requires-2 c κs = search needs
+
+cast-if3 : tie.Need-cast-if3
+cast-if3 c = search needs
+
+cast-if3-2 : tie.Need-cast-if3-2
+cast-if3-2 c = search needs
+
+mul-if3 : tie.Need-mul-if3
+mul-if3 c = search needs
+
+add-if3 : tie.Need-add-if3
+add-if3 c = search needs
+
+returns-3 : tie.Need-returns-3
+unfolding readPlan
+returns-3 c = let s = c .before .before .before .before .before .before .args .plan .now in
+    rw (le-ltb (length s) 16 (omega arith), le-ltb 64 (countOf s) (omega arith), lt-ltb (length s) (tableOf s + 16 * countOf s) (omega arith))
+
+word-at-requires-3 : tie.Need-word-at-requires-3
+word-at-requires-3 c κs = search needs
+
+cast-if4 : tie.Need-cast-if4
+cast-if4 c = search needs
+
+word-at-requires-4 : tie.Need-word-at-requires-4
+word-at-requires-4 c κs = search needs
+
+cast-if4-2 : tie.Need-cast-if4-2
+cast-if4-2 c = search needs
+
+add-if4 : tie.Need-add-if4
+add-if4 c = search needs
+
+returns-4 : tie.Need-returns-4
+unfolding readPlan
+returns-4 c = let s = c .before .before .before .before .before .before .before .before .before .args .plan .now in
+    rw (le-ltb (length s) 16 (omega arith), le-ltb 64 (countOf s) (omega arith), le-ltb (length s) (tableOf s + 16 * countOf s) (omega arith), lt-ltb (length s) (dataAt s + dataLength s) (omega arith))
+
+read-pieces-requires : tie.Need-read-pieces-requires
+read-pieces-requires c κs = search needs
+
+returns-5 : tie.Need-returns-5
+unfolding readPlan
+returns-5 c = let s = c .before .before .before .before .before .before .before .before .before .before .args .plan .now in
+    rw (le-ltb (length s) 16 (omega arith), le-ltb 64 (countOf s) (omega arith), le-ltb (length s) (tableOf s + 16 * countOf s) (omega arith), le-ltb (length s) (dataAt s + dataLength s) (omega arith)) (rw (c .before .before .before .before .before .before .before .word-at .ensures) at (c .read-pieces .ensures))
+
+pub read-spec : {M : Type 1} → statement M
+read-spec =
+    tie.close
+    (tie.spec
+    returns
+    word-at-requires
+    returns-2
+    word-at-requires-2
+    cast-if3
+    cast-if3-2
+    mul-if3
+    add-if3
+    returns-3
+    word-at-requires-3
+    cast-if4
+    word-at-requires-4
+    cast-if4-2
+    add-if4
+    returns-4
+    read-pieces-requires
+    returns-5)

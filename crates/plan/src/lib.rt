@@ -1,0 +1,3 @@
+// Plans.
+pub mod piece; // one piece of a plan
+pub mod read; // the whole plan

@@ -1,0 +1,178 @@
+// One piece of a plan.
+ghost use mathlib.Core.Path.{_≡_};
+ghost use mathlib.Core.List.{List};
+ghost use Prim.Native.Nat.{ℕ, _%_};
+ghost use lib.Dec.{eqb};
+ghost use Rattle.words.specs.Bytes.{littleEndianAt};
+ghost use Rattle.plan.specs.Plan.{judgeRun, judgeFill, judgeData, judgePut, judgeKind, pieceAt};
+ghost use Rattle.plan.specs.Code.{unitOf, judgedIs, WithinData};
+use memory_map::answer::CUT_SHORT;
+use memory_map::answer::LENGTH_NOT_EXPRESSIBLE;
+use memory_map::answer::NOT_ALIGNED;
+use memory_map::answer::PLAN_MALFORMED;
+use memory_map::answer::RUN_NOT_LEGAL;
+use memory_map::answer::ZERO_LENGTH;
+
+// The medium whose lengths are asked for: multiples of 32, of 4, or any.
+pub enum Target {
+    Aplx,
+    Srom,
+    Any,
+}
+
+// A put's data stands in the plan from an offset on.
+pub enum Piece {
+    Put {
+        address: u32,
+        from: usize,
+        length: usize,
+    },
+    Fill {
+        address: u32,
+        length: usize,
+        word: u32,
+    },
+    Run {
+        address: u32,
+    },
+}
+
+// A piece, or the number of its refusal.
+pub enum Judged {
+    Good(Piece),
+    Bad(u32),
+}
+
+// The word at an offset; bytes past the end count as zero.
+pub(crate) fn word_at(plan: &[u8], at: usize) -> u32
+    ensures { λ r. ⌜ r ≡ littleEndianAt 4 (now (plan .entry)) at ⌝ }
+{
+    if at <= plan.len() {
+        words::read::le_word(&plan[at..])
+    } else {
+        0
+    }
+}
+
+// Whether a length is a multiple of the medium's unit.
+fn is_whole(target: Target, length: u32) -> bool
+    ensures { λ r. ⌜ r ≡ eqb (length % unitOf target) 0 ⌝ }
+{
+    match target {
+        Target::Aplx => length % 32 == 0,
+        Target::Srom => length % 4 == 0,
+        Target::Any => true,
+    }
+}
+
+fn judge_run(address: u32, length: u32, last: u32) -> Judged
+    ensures { λ r. ⌜ ((s : List ℕ) → judgedIs s r ≡ judgeRun address length last) ⌝ }
+    ensures { λ r. ⌜ ((s : List ℕ) → WithinData s r) ⌝ }
+{
+    if length != 0 {
+        return Judged::Bad(PLAN_MALFORMED);
+    }
+    if last != 0 {
+        return Judged::Bad(PLAN_MALFORMED);
+    }
+    if address % 4 == 2 {
+        return Judged::Bad(RUN_NOT_LEGAL);
+    }
+    Judged::Good(Piece::Run { address })
+}
+
+fn judge_fill(target: Target, address: u32, length: u32, word: u32) -> Judged
+    ensures { λ r. ⌜ ((s : List ℕ) → judgedIs s r ≡ judgeFill (unitOf target) address length word) ⌝ }
+    ensures { λ r. ⌜ ((s : List ℕ) → WithinData s r) ⌝ }
+{
+    if length == 0 {
+        return Judged::Bad(ZERO_LENGTH);
+    }
+    if length > 65536 {
+        return Judged::Bad(PLAN_MALFORMED);
+    }
+    if address % 4 != 0 {
+        return Judged::Bad(NOT_ALIGNED);
+    }
+    if is_whole(target, length) {
+        return Judged::Good(Piece::Fill {
+            address,
+            length: length as usize,
+            word,
+        });
+    }
+    Judged::Bad(LENGTH_NOT_EXPRESSIBLE)
+}
+
+// The data of a put whose address and length are in order.
+fn judge_data(plan: &[u8], target: Target, address: u32, length: u32, offset: u32) -> Judged
+    ensures { λ r. ⌜ judgedIs (now (plan .entry)) r ≡ judgeData (unitOf target) (now (plan .entry)) address length offset ⌝ }
+    ensures { λ r. ⌜ WithinData (now (plan .entry)) r ⌝ }
+{
+    let start = offset as u64;
+    let size = word_at(plan, 12) as u64;
+    if size < start + length as u64 {
+        return Judged::Bad(CUT_SHORT);
+    }
+    if is_whole(target, length) {
+        let from = word_at(plan, 8) as usize + offset as usize;
+        return Judged::Good(Piece::Put {
+            address,
+            from,
+            length: length as usize,
+        });
+    }
+    Judged::Bad(LENGTH_NOT_EXPRESSIBLE)
+}
+
+fn judge_put(plan: &[u8], target: Target, address: u32, length: u32, offset: u32) -> Judged
+    ensures { λ r. ⌜ judgedIs (now (plan .entry)) r ≡ judgePut (unitOf target) (now (plan .entry)) address length offset ⌝ }
+    ensures { λ r. ⌜ WithinData (now (plan .entry)) r ⌝ }
+{
+    if length == 0 {
+        return Judged::Bad(ZERO_LENGTH);
+    }
+    if length > 65536 {
+        return Judged::Bad(PLAN_MALFORMED);
+    }
+    if address % 4 != 0 {
+        return Judged::Bad(NOT_ALIGNED);
+    }
+    judge_data(plan, target, address, length, offset)
+}
+
+fn judge_kind(
+    plan: &[u8],
+    target: Target,
+    kind: u32,
+    address: u32,
+    length: u32,
+    last: u32,
+) -> Judged
+    ensures { λ r. ⌜ judgedIs (now (plan .entry)) r ≡ judgeKind (unitOf target) (now (plan .entry)) kind address length last ⌝ }
+    ensures { λ r. ⌜ WithinData (now (plan .entry)) r ⌝ }
+{
+    if kind == 1 {
+        return judge_put(plan, target, address, length, last);
+    }
+    if kind == 2 {
+        return judge_fill(target, address, length, last);
+    }
+    if kind == 3 {
+        return judge_run(address, length, last);
+    }
+    Judged::Bad(PLAN_MALFORMED)
+}
+
+// The piece with an index, by the plan's own table.
+pub fn piece_at(plan: &[u8], target: Target, index: u32) -> Judged
+    ensures { λ r. ⌜ judgedIs (now (plan .entry)) r ≡ pieceAt (unitOf target) (now (plan .entry)) index ⌝ }
+    ensures { λ r. ⌜ WithinData (now (plan .entry)) r ⌝ }
+{
+    let at = word_at(plan, 4) as usize + 16 * (index as usize);
+    let kind = word_at(plan, at);
+    let address = word_at(plan, at + 4);
+    let length = word_at(plan, at + 8);
+    let last = word_at(plan, at + 12);
+    judge_kind(plan, target, kind, address, length, last)
+}

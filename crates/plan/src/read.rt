@@ -1,0 +1,73 @@
+// The whole plan.
+ghost use mathlib.Core.Path.{_≡_};
+ghost use Prim.Native.Nat.{ℕ, _≤_};
+ghost use Rattle.plan.specs.Plan.{countOf, readPieces, readPlan};
+ghost use Rattle.plan.specs.Code.{unitOf, outcomeOf, outcomeIs};
+use crate::piece::Judged;
+use crate::piece::Target;
+use crate::piece::piece_at;
+use crate::piece::word_at;
+use memory_map::answer::CUT_SHORT;
+use memory_map::answer::PLAN_MALFORMED;
+use memory_map::answer::Refusal;
+
+// The number of pieces, or the refusal.
+pub enum Answer {
+    Pieces(usize),
+    Refused(Refusal),
+}
+
+// The pieces, one after the other.
+fn read_pieces(plan: &[u8], target: Target, count: u32) -> Answer
+    requires { ⌜ count ≤ 64 ⌝ }
+    ensures { λ r. ⌜ outcomeIs r ≡ outcomeOf (readPieces (unitOf target) (now (plan .entry)) count 0) ⌝ }
+{
+    let mut i: u32 = 0;
+    while i < count {
+        match piece_at(plan, target, i) {
+            Judged::Good(_) => {
+                i += 1;
+            }
+            Judged::Bad(number) => {
+                return Answer::Refused(Refusal {
+                    number,
+                    place: i as usize,
+                });
+            }
+        }
+    }
+    Answer::Pieces(count as usize)
+}
+
+// Reads a plan: its header, and the tests of every piece.
+pub fn read(plan: &[u8], target: Target) -> Answer
+    ensures { λ r. ⌜ outcomeIs r ≡ outcomeOf (readPlan (unitOf target) (now (plan .entry))) ⌝ }
+{
+    if plan.len() < 16 {
+        return Answer::Refused(Refusal {
+            number: CUT_SHORT,
+            place: 0,
+        });
+    }
+    let count = word_at(plan, 0);
+    if count > 64 {
+        return Answer::Refused(Refusal {
+            number: PLAN_MALFORMED,
+            place: 0,
+        });
+    }
+    let size = plan.len();
+    if size < word_at(plan, 4) as usize + 16 * (count as usize) {
+        return Answer::Refused(Refusal {
+            number: CUT_SHORT,
+            place: 0,
+        });
+    }
+    if size < word_at(plan, 8) as usize + word_at(plan, 12) as usize {
+        return Answer::Refused(Refusal {
+            number: CUT_SHORT,
+            place: 0,
+        });
+    }
+    read_pieces(plan, target, count)
+}
