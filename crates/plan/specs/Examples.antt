@@ -80,9 +80,9 @@ find =
     lookupIn
     (record { base = 4096; length = 64; place = 0; rights = record { read = true; write = true; run = true } } ∷ [])
 
--- a fill, a correction listed after it, a run, and a piece behind the run that is not permitted
+-- a fill, a correction listed after it, a run, a fill behind it, and a piece that is not permitted
 listed : List Piece
-listed = fill 4096 8 0x01020304 ∷ put 4098 (9 ∷ 9 ∷ []) ∷ run 4097 ∷ fill 0 4 0 ∷ []
+listed = fill 4096 8 0x01020304 ∷ put 4098 (9 ∷ 9 ∷ []) ∷ run 4097 ∷ fill 4104 4 1 ∷ fill 0 4 0 ∷ []
 
 abbrev memory : List ℕ
 memory = replicate 64 7
@@ -91,8 +91,8 @@ record Meanings : Type 0 where
   pub first-stretch : meaning find listed 0 memory .finish ≡ runs 4097 2
   pub in-plan-order : take 10 (meaning find listed 0 memory .memory) ≡ 4 ∷ 3 ∷ 9 ∷ 9 ∷ 4 ∷ 3 ∷ 2 ∷ 1 ∷ 7 ∷ 7 ∷ []
   pub from-the-put : take 5 (meaning find listed 1 memory .memory) ≡ 7 ∷ 7 ∷ 9 ∷ 9 ∷ 7 ∷ []
-  pub second-stretch : meaning find listed 3 memory ≡ record { finish = denies 4 3; memory = memory }
-  pub at-the-end : meaning find listed 4 memory ≡ record { finish = ends 4; memory = memory }
+  pub second-stretch : meaning find listed 3 memory ≡ record { finish = denies 4 4; memory = memory }
+  pub at-the-end : meaning find listed 5 memory ≡ record { finish = ends 5; memory = memory }
   pub cut-fill : take 7 (meaning find (fill 4096 6 0x01020304 ∷ []) 0 memory .memory) ≡ 4 ∷ 3 ∷ 2 ∷ 1 ∷ 4 ∷ 3 ∷ 7 ∷ []
   -- the first piece is permitted and the run is not: nothing is stored
   pub run-denied : meaning find (fill 4096 4 0 ∷ run 4098 ∷ []) 0 memory ≡ record { finish = denies 9 1; memory = memory }
