@@ -5,7 +5,7 @@ second/compare holds crates/cases/stdout to it.
 """
 import re
 import pathlib
-from model import Region, add, sound, permitted, run_kind, srom_load, aplx_load, scp_answer
+from model import Region, add, sound, permitted, run_kind, srom_load, aplx_load, scp_answer, pack_srom
 
 SOURCE = pathlib.Path(__file__).resolve().parent.parent / 'crates' / 'cases' / 'src'
 
@@ -117,7 +117,18 @@ def scp_cases():
     out('a map for a longer memory: ' + scp_answer(regions, memory[:8], identity, b'\x00', bytearray(272)))
 
 
+# ---- plans
+
+def plan_cases():
+    text = (SOURCE / 'plan_cases.rt').read_text()
+    for label, plan in re.findall(r'case\(\s*b"([^"]*: )",\s*(b"[^"]*"),?\s*\);', text):
+        output = bytearray([0xee] * 64)
+        out(label + pack_srom(literal(plan), output))
+        out(output.hex())
+
+
 map_cases()
 srom_cases()
 aplx_cases()
 scp_cases()
+plan_cases()

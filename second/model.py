@@ -239,3 +239,65 @@ def scp_answer(regions, memory, identity, packet, output):
         return reply(ok, bytes(memory[place:place + size]))
     memory[place:place + size] = packet[16:]
     return reply(ok)
+
+
+# ---- plans
+
+def read_plan(plan, unit):
+    """The pieces of a plan; unit is 32 for APLX, 4 for SROM, 1 where 12 is not tested."""
+    def word(at):
+        return int.from_bytes(plan[at:at + 4], 'little')
+
+    if len(plan) < 16:
+        raise Refused(2)
+    count, table, data, length = (word(4 * k) for k in range(4))
+    if count > 64:
+        raise Refused(11)
+    if table + 16 * count > len(plan) or data + length > len(plan):
+        raise Refused(2)
+    pieces = []
+    for index in range(count):
+        kind, address, size, last = (word(table + 16 * index + 4 * k) for k in range(4))
+        if kind not in (1, 2, 3):
+            raise Refused(11, index)
+        if kind == 3:
+            if size or last:
+                raise Refused(11, index)
+            if address % 4 == 2:
+                raise Refused(9, index)
+            pieces.append(('run', address))
+            continue
+        if size == 0:
+            raise Refused(5, index)
+        if size > 65536:
+            raise Refused(11, index)
+        if address % 4:
+            raise Refused(3, index)
+        if kind == 1 and last + size > length:
+            raise Refused(2, index)
+        if size % unit:
+            raise Refused(12, index)
+        if kind == 1:
+            pieces.append(('put', address, bytes(plan[data + last:data + last + size])))
+        else:
+            pieces.append(('fill', address, (last.to_bytes(4, 'little') * size)[:size]))
+    return pieces
+
+
+def pack_srom(plan, output):
+    """The answer as text; the image at the output's front."""
+    try:
+        pieces = read_plan(plan, 4)
+        image = bytearray(b'\x55')
+        for piece in pieces:
+            data = b'' if piece[0] == 'run' else piece[2]
+            image += b'\x3a' + (len(data) // 4).to_bytes(2, 'big') + piece[1].to_bytes(4, 'big')
+            for k in range(0, len(data), 4):
+                image += data[k:k + 4][::-1]
+        image += b'\xff'
+        if len(image) > len(output):
+            raise Refused(10, len(pieces))
+    except Refused as r:
+        return 'refused %d at %d' % (r.number, r.place)
+    output[:len(image)] = image
+    return 'packed %d' % len(image)

@@ -4,6 +4,7 @@ ghost use Prim.Native.Nat.{_+_, _≤_};
 ghost use lib.ListN.{length};
 ghost use Rattle.aplx.specs.Command.{commandOf, commandAt};
 ghost use Rattle.aplx.specs.Code.{commandIs};
+use words::read::le_word_at;
 
 // Lengths are rounded up, and a source is an address.
 pub(crate) enum Command {
@@ -50,12 +51,9 @@ pub(crate) fn command_at(memory: &[u8], place: usize, address: u32) -> Command
     requires { ⌜ place + 16 ≤ length (now memory) ⌝ }
     ensures { λ r. ⌜ commandIs r ≡ commandAt (now (memory .entry)) place address ⌝ }
 {
-    let second = place + 4;
-    let third = place + 8;
-    let fourth = place + 12;
-    let c = words::read::le_word(&memory[place..]);
-    let x = words::read::le_word(&memory[second..]);
-    let y = words::read::le_word(&memory[third..]);
-    let z = words::read::le_word(&memory[fourth..]);
+    let c = le_word_at(memory, place);
+    let x = le_word_at(memory, place + 4);
+    let y = le_word_at(memory, place + 8);
+    let z = le_word_at(memory, place + 12);
     command_of(address, c, x, y, z)
 }

@@ -1,6 +1,7 @@
 // The weighed cases, run and compared with the stored output.
 mod aplx_cases;
 mod map_cases;
+mod plan_cases;
 mod scp_cases;
 mod srom_cases;
 mod tell;
@@ -10,4 +11,5 @@ fn main() {
     srom_cases::run();
     aplx_cases::run();
     scp_cases::run();
+    plan_cases::run();
 }

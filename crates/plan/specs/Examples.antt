@@ -11,6 +11,7 @@ use Rattle.memory_map.specs.Region.{permits}
 use Rattle.memory_map.specs.Lookup.{Lookup, lookupIn}
 use Rattle.memory_map.specs.Entry.{legal, runEntry}
 use Rattle.plan.specs.Plan.{Piece, put, fill, run, judgeRun, judgeFill, judgeData, judgePut, judgeKind, judgeAt, pieceAt, refused, pieces, readPieces, readPlan}
+use Rattle.plan.specs.Packed.{refuses, packs, packedAs}
 use Rattle.plan.specs.Meaning.{permit, effect, effects, stretch, ends, runs, denies, finish, meaning}
 
 words : List ℕ → List ℕ
@@ -108,3 +109,17 @@ meanings = record {
   cut-fill = refl;
   run-denied = refl;
 }
+
+-- an image of 100 bytes, whatever the pieces
+hundred : List Piece → List ℕ
+hundred ps = replicate 100 0
+
+record Packings : Type 0 where
+  pub fits : packedAs hundred (pieces (run 0 ∷ [])) 100 ≡ packs (replicate 100 0)
+  pub too-small : packedAs hundred (pieces (run 0 ∷ [])) 99 ≡ refuses 10 1
+  -- 10 comes last
+  pub refused-first : packedAs hundred (refused 11 1) 0 ≡ refuses 11 1
+
+packings : Packings
+unfolding hundred
+packings = record { fits = refl; too-small = refl; refused-first = refl }

@@ -3,7 +3,6 @@ ghost use mathlib.Core.Path.{_≡_};
 ghost use mathlib.Core.List.{List};
 ghost use Prim.Native.Nat.{ℕ, _%_};
 ghost use lib.Dec.{eqb};
-ghost use Rattle.words.specs.Bytes.{littleEndianAt};
 ghost use Rattle.plan.specs.Plan.{judgeRun, judgeFill, judgeData, judgePut, judgeKind, pieceAt};
 ghost use Rattle.plan.specs.Code.{unitOf, judgedIs, WithinData};
 use memory_map::answer::CUT_SHORT;
@@ -12,6 +11,7 @@ use memory_map::answer::NOT_ALIGNED;
 use memory_map::answer::PLAN_MALFORMED;
 use memory_map::answer::RUN_NOT_LEGAL;
 use memory_map::answer::ZERO_LENGTH;
+use words::read::le_word_at;
 
 // The medium whose lengths are asked for: multiples of 32, of 4, or any.
 pub enum Target {
@@ -41,17 +41,6 @@ pub enum Piece {
 pub enum Judged {
     Good(Piece),
     Bad(u32),
-}
-
-// The word at an offset; bytes past the end count as zero.
-pub(crate) fn word_at(plan: &[u8], at: usize) -> u32
-    ensures { λ r. ⌜ r ≡ littleEndianAt 4 (now (plan .entry)) at ⌝ }
-{
-    if at <= plan.len() {
-        words::read::le_word(&plan[at..])
-    } else {
-        0
-    }
 }
 
 // Whether a length is a multiple of the medium's unit.
@@ -110,12 +99,12 @@ fn judge_data(plan: &[u8], target: Target, address: u32, length: u32, offset: u3
     ensures { λ r. ⌜ WithinData (now (plan .entry)) r ⌝ }
 {
     let start = offset as u64;
-    let size = word_at(plan, 12) as u64;
+    let size = le_word_at(plan, 12) as u64;
     if size < start + length as u64 {
         return Judged::Bad(CUT_SHORT);
     }
     if is_whole(target, length) {
-        let from = word_at(plan, 8) as usize + offset as usize;
+        let from = le_word_at(plan, 8) as usize + offset as usize;
         return Judged::Good(Piece::Put {
             address,
             from,
@@ -169,10 +158,10 @@ pub fn piece_at(plan: &[u8], target: Target, index: u32) -> Judged
     ensures { λ r. ⌜ judgedIs (now (plan .entry)) r ≡ pieceAt (unitOf target) (now (plan .entry)) index ⌝ }
     ensures { λ r. ⌜ WithinData (now (plan .entry)) r ⌝ }
 {
-    let at = word_at(plan, 4) as usize + 16 * (index as usize);
-    let kind = word_at(plan, at);
-    let address = word_at(plan, at + 4);
-    let length = word_at(plan, at + 8);
-    let last = word_at(plan, at + 12);
+    let at = le_word_at(plan, 4) as usize + 16 * (index as usize);
+    let kind = le_word_at(plan, at);
+    let address = le_word_at(plan, at + 4);
+    let length = le_word_at(plan, at + 8);
+    let last = le_word_at(plan, at + 12);
     judge_kind(plan, target, kind, address, length, last)
 }

@@ -6,10 +6,10 @@ ghost use Rattle.plan.specs.Code.{unitOf, outcomeOf, outcomeIs};
 use crate::piece::Judged;
 use crate::piece::Target;
 use crate::piece::piece_at;
-use crate::piece::word_at;
 use memory_map::answer::CUT_SHORT;
 use memory_map::answer::PLAN_MALFORMED;
 use memory_map::answer::Refusal;
+use words::read::le_word_at;
 
 // The number of pieces, or the refusal.
 pub enum Answer {
@@ -49,7 +49,7 @@ pub fn read(plan: &[u8], target: Target) -> Answer
             place: 0,
         });
     }
-    let count = word_at(plan, 0);
+    let count = le_word_at(plan, 0);
     if count > 64 {
         return Answer::Refused(Refusal {
             number: PLAN_MALFORMED,
@@ -57,13 +57,13 @@ pub fn read(plan: &[u8], target: Target) -> Answer
         });
     }
     let size = plan.len();
-    if size < word_at(plan, 4) as usize + 16 * (count as usize) {
+    if size < le_word_at(plan, 4) as usize + 16 * (count as usize) {
         return Answer::Refused(Refusal {
             number: CUT_SHORT,
             place: 0,
         });
     }
-    if size < word_at(plan, 8) as usize + word_at(plan, 12) as usize {
+    if size < le_word_at(plan, 8) as usize + le_word_at(plan, 12) as usize {
         return Answer::Refused(Refusal {
             number: CUT_SHORT,
             place: 0,

@@ -2,17 +2,9 @@
 ghost use mathlib.Core.Path.{_≡_};
 ghost use Prim.Native.Nat.{_+_, _≤_};
 ghost use lib.ListN.{length};
-ghost use Rattle.words.specs.Bytes.{littleEndianAt};
 ghost use Rattle.scp.specs.Packet.{aligned};
 ghost use Rattle.scp.specs.Answer.{tooLarge, misaligned};
-
-// The word at an offset.
-pub(crate) fn word_at(packet: &[u8], at: usize) -> u32
-    requires { ⌜ at + 4 ≤ length (now packet) ⌝ }
-    ensures { λ r. ⌜ r ≡ littleEndianAt 4 (now (packet .entry)) at ⌝ }
-{
-    words::read::le_word(&packet[at..])
-}
+use words::read::le_word_at;
 
 // Whether a number is a multiple of 1, 2 or 4 by type.
 fn is_aligned(kind: u32, n: u32) -> bool
@@ -32,10 +24,10 @@ pub(crate) fn is_too_large(packet: &[u8]) -> bool
     requires { ⌜ 16 ≤ length (now packet) ⌝ }
     ensures { λ r. ⌜ r ≡ tooLarge (now (packet .entry)) ⌝ }
 {
-    if word_at(packet, 8) > 256 {
+    if le_word_at(packet, 8) > 256 {
         return true;
     }
-    word_at(packet, 12) > 2
+    le_word_at(packet, 12) > 2
 }
 
 // Whether the address or the length is no multiple by type.
@@ -43,9 +35,9 @@ pub(crate) fn is_misaligned(packet: &[u8]) -> bool
     requires { ⌜ 16 ≤ length (now packet) ⌝ }
     ensures { λ r. ⌜ r ≡ misaligned (now (packet .entry)) ⌝ }
 {
-    let kind = word_at(packet, 12);
-    if is_aligned(kind, word_at(packet, 4)) {
-        if is_aligned(kind, word_at(packet, 8)) {
+    let kind = le_word_at(packet, 12);
+    if is_aligned(kind, le_word_at(packet, 4)) {
+        if is_aligned(kind, le_word_at(packet, 8)) {
             return false;
         }
     }

@@ -12,6 +12,7 @@ use memory_map::answer::Answer;
 use memory_map::answer::Stop;
 use memory_map::map::Map;
 use memory_map::map::RunEntry;
+use words::read::le_word_at;
 
 // A RUN packet. It changes no memory.
 pub(crate) fn run(map: Map, packet: &[u8], output: &mut [u8]) -> Reply
@@ -21,7 +22,7 @@ pub(crate) fn run(map: Map, packet: &[u8], output: &mut [u8]) -> Reply
     if packet.len() < 8 {
         return crate::reply::coded(0x81, packet, output);
     }
-    match map.run_entry(crate::packet::word_at(packet, 4)) {
+    match map.run_entry(le_word_at(packet, 4)) {
         RunEntry::Legal(entry) => Reply::Run { entry },
         RunEntry::Refused(_) => crate::reply::coded(0x84, packet, output),
     }
@@ -57,7 +58,7 @@ pub(crate) fn load(map: Map, memory: &mut [u8], packet: &[u8], output: &mut [u8]
     if packet.len() < 8 {
         return crate::reply::coded(0x81, packet, output);
     }
-    let header = crate::packet::word_at(packet, 4);
+    let header = le_word_at(packet, 4);
     let answer = aplx::load::load(map, memory, header);
     loaded(answer, packet, output)
 }

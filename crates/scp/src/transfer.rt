@@ -12,18 +12,18 @@ ghost use Rattle.scp.specs.Code.{replyOf};
 use crate::answer::Reply;
 use crate::packet::is_misaligned;
 use crate::packet::is_too_large;
-use crate::packet::word_at;
 use memory_map::map::Found;
 use memory_map::map::Map;
 use memory_map::region::Right;
+use words::read::le_word_at;
 
 // The bytes of a range, where it is permitted.
 fn read_range(map: Map, memory: &[u8], packet: &[u8], output: &mut [u8]) -> Reply
     requires { ⌜ (16 ≤ length (now packet)) × (272 ≤ length (now output)) × (sound map (length (now memory)) ≡ true) × (arg2 (now packet) ≤ 256) ⌝ }
     ensures { λ r. ⌜ record { reply = replyOf r; memory = now (memory .entry); output = now (output .exit) } ≡ answered (readReaction (lookup map right.Read (arg1 (now (packet .entry))) (arg2 (now (packet .entry)))) (now (packet .entry)) (now (memory .entry))) (now (output .entry)) ⌝ }
 {
-    let address = word_at(packet, 4);
-    let size = word_at(packet, 8) as usize;
+    let address = le_word_at(packet, 4);
+    let size = le_word_at(packet, 8) as usize;
     match map.lookup(Right::Read, address, size as u64) {
         Found::At(place) => {
             let end = place + size;
@@ -49,7 +49,7 @@ pub(crate) fn read(map: Map, memory: &[u8], packet: &[u8], output: &mut [u8]) ->
     if is_misaligned(packet) {
         return crate::reply::coded(0x84, packet, output);
     }
-    if word_at(packet, 8) == 0 {
+    if le_word_at(packet, 8) == 0 {
         return crate::reply::coded(0x80, packet, output);
     }
     read_range(map, memory, packet, output)
@@ -60,8 +60,8 @@ fn write_range(map: Map, memory: &mut [u8], packet: &[u8], output: &mut [u8]) ->
     requires { ⌜ (272 ≤ length (now output)) × (sound map (length (now memory)) ≡ true) × (length (now packet) ≡ 16 + arg2 (now packet)) ⌝ }
     ensures { λ r. ⌜ record { reply = replyOf r; memory = now (memory .exit); output = now (output .exit) } ≡ answered (writeReaction (lookup map right.Write (arg1 (now (packet .entry))) (arg2 (now (packet .entry)))) (now (packet .entry)) (now (memory .entry))) (now (output .entry)) ⌝ }
 {
-    let address = word_at(packet, 4);
-    let size = word_at(packet, 8) as u64;
+    let address = le_word_at(packet, 4);
+    let size = le_word_at(packet, 8) as u64;
     match map.lookup(Right::Write, address, size) {
         Found::At(place) => {
             words::put::bytes(memory, place, &packet[16..]);
@@ -79,7 +79,7 @@ fn write_whole(map: Map, memory: &mut [u8], packet: &[u8], output: &mut [u8]) ->
     if is_misaligned(packet) {
         return crate::reply::coded(0x84, packet, output);
     }
-    if word_at(packet, 8) == 0 {
+    if le_word_at(packet, 8) == 0 {
         return crate::reply::coded(0x80, packet, output);
     }
     write_range(map, memory, packet, output)
@@ -96,7 +96,7 @@ pub(crate) fn write(map: Map, memory: &mut [u8], packet: &[u8], output: &mut [u8
     if is_too_large(packet) {
         return crate::reply::coded(0x84, packet, output);
     }
-    if packet.len() != 16 + word_at(packet, 8) as usize {
+    if packet.len() != 16 + le_word_at(packet, 8) as usize {
         return crate::reply::coded(0x81, packet, output);
     }
     write_whole(map, memory, packet, output)

@@ -1,4 +1,5 @@
 // Bytes, words and ranges, as the loaders and packers need them. Each function answers for any input.
 pub mod read; // numbers out of bytes
 pub mod put; // numbers into bytes
+pub mod swap; // words between Big and Little Endian
 pub mod range; // ranges that share a number, and lengths rounded up

@@ -39,6 +39,13 @@ pub fn le_word(s: &[u8]) -> u32
     number_of_four(byte_at(s, 0), byte_at(s, 1), byte_at(s, 2), byte_at(s, 3))
 }
 
+// The Little Endian number in the four bytes at an offset.
+pub fn le_word_at(s: &[u8], at: usize) -> u32
+    ensures { λ r. ⌜ r ≡ littleEndianAt 4 (now (s .entry)) at ⌝ }
+{
+    if at <= s.len() { le_word(&s[at..]) } else { 0 }
+}
+
 // The Big Endian number in the first two bytes.
 pub fn be_half(s: &[u8]) -> u16
     ensures { λ r. ⌜ r ≡ bigEndianAt 2 (now (s .entry)) 0 ⌝ }

@@ -1,13 +1,15 @@
 -- Laws of swapped words.
-use mathlib.Core.Path.{_≡_, refl, sym}
+use mathlib.Core.Path.{_≡_, refl, sym, _∙_, ap}
 use mathlib.Core.List.{List, [], _∷_, _++_}
 use Prim.Native.Nat.{ℕ, zero, suc, _+_, _*_, _/_, _%_, _≤_, _<_}
 use native.Mathlib.Omega.{arith}
-use lib.ListN.{length, take, drop}
+use lib.ListN.{length, take, drop, length-drop, take-append-drop}
 use lib.Seq.{length-take-le, take-add}
 use Rattle.words.specs.Choice.Laws.{all-reverse}
-use Rattle.words.specs.Bytes.{littleEndian, fromBigEndian, firstBytes, bigEndianAt, Bytes}
-use Rattle.words.specs.Bytes.Laws.{littleEndian-from}
+use Rattle.words.specs.Bytes.{littleEndian, bigEndian, fromBigEndian, firstBytes, bigEndianAt, Bytes}
+use Rattle.words.specs.Bytes.Laws.{littleEndian-from, word-bytes}
+use Rattle.words.specs.Repeat.{repeated}
+use Rattle.words.specs.Repeat.Laws.{repeated-more, length-repeated}
 use Rattle.words.specs.Store.{store}
 use Rattle.words.specs.Store.Laws.{store-adjoining}
 use Rattle.words.specs.Swap.{swapWords}
@@ -54,6 +56,16 @@ swap-number (a ∷ b ∷ []) e h = absurd (omega arith)
 swap-number (a ∷ b ∷ c ∷ []) e h = absurd (omega arith)
 swap-number (a ∷ b ∷ c ∷ d ∷ x ∷ s) e h = absurd (omega arith)
 
+-- a Little Endian word becomes the same word, Big Endian
+pub swap-little : (w : ℕ) → swapWords (littleEndian 4 w) ≡ bigEndian 4 w
+unfolding swapWords bigEndian
+swap-little w = simp word-bytes
+
+-- one more word behind a word repeated
+pub swap-repeated-more : (k w : ℕ) → swapWords (repeated (k + 1) w) ≡ swapWords (repeated k w) ++ bigEndian 4 w
+swap-repeated-more k w =
+    rw (repeated-more k w, swap-append k (repeated k w) (littleEndian 4 w) (length-repeated k w), swap-little w)
+
 -- k more bytes stored behind p bytes that are whole words
 pub swap-more : (m s : List ℕ) (p k : ℕ) → p % 4 ≡ 0 → p ≤ length s → p ≤ length m
     → store (store m 0 (swapWords (take p s))) p (swapWords (take k (drop p s))) ≡ store m 0 (swapWords (take (p + k) s))
@@ -63,3 +75,21 @@ swap-more m s p k h x y =
     rw
     (take-add p k s, swap-append (p / 4) (take p s) (take k (drop p s)) (omega arith))
     (rw l at (store-adjoining m 0 (swapWords (take p s)) (omega arith) (swapWords (take k (drop p s)))))
+
+-- fewer bytes than a word
+pub swap-short : (s : List ℕ) → length s < 4 → swapWords s ≡ s
+unfolding swapWords
+swap-short [] h = refl
+swap-short (a ∷ []) h = refl
+swap-short (a ∷ b ∷ []) h = refl
+swap-short (a ∷ b ∷ c ∷ []) h = refl
+swap-short (a ∷ b ∷ c ∷ d ∷ s) h = absurd (omega arith)
+
+-- the whole words, then the bytes behind them
+pub swap-whole-words : (s : List ℕ) → let k = length s / 4 * 4 in swapWords s ≡ swapWords (take k s) ++ drop k s
+swap-whole-words s =
+    let k = length s / 4 * 4 in
+    let t : length (take k s) ≡ 4 * (length s / 4) = length-take-le k s (omega arith) ∙ omega arith in
+    ap swapWords (sym (take-append-drop k s))
+    ∙ swap-append (length s / 4) (take k s) (drop k s) t
+    ∙ ap (λ (l : List ℕ). swapWords (take k s) ++ l) (swap-short (drop k s) (omega (arith, length-drop k s)))

@@ -9,8 +9,8 @@ use borrow.Author.Needs.{needs}
 use Rattle.plan.proofs.piece.judge_data.Statement.{statement}
 use Rattle.plan.proofs.piece.judge_data.Tie as tie
 
-word-at-requires : tie.Need-word-at-requires
-word-at-requires c κs = search needs
+le-word-at-requires : tie.Need-le-word-at-requires
+le-word-at-requires c κs = search needs
 
 cast-size : tie.Need-cast-size
 cast-size c = search needs
@@ -28,8 +28,8 @@ returns c = (
 is-whole-requires : tie.Need-is-whole-requires
 is-whole-requires c κs = search needs
 
-word-at-requires-2 : tie.Need-word-at-requires-2
-word-at-requires-2 c κs = search needs
+le-word-at-requires-2 : tie.Need-le-word-at-requires-2
+le-word-at-requires-2 c κs = search needs
 
 cast-from : tie.Need-cast-from
 cast-from c = search needs
@@ -40,7 +40,7 @@ add-from c = search needs
 returns-2 : tie.Need-returns-2
 unfolding judgeData
 returns-2 c = (
-  let x = c .before .before .before .before .before .before .args in simp (le-ltb (dataLength (now (x .plan))) (x .offset + x .length) (omega arith), sym (c .before .before .is-whole .ensures) ∙ c .before .if2 .taken, c .word-at2 .ensures),
+  let x = c .before .before .before .before .before .before .args in simp (le-ltb (dataLength (now (x .plan))) (x .offset + x .length) (omega arith), sym (c .before .before .is-whole .ensures) ∙ c .before .if2 .taken, c .le-word-at2 .ensures),
   omega arith,
 )
 
@@ -55,12 +55,12 @@ pub judge-data-spec : {M : Type 1} → statement M
 judge-data-spec =
     tie.close
     (tie.spec
-    word-at-requires
+    le-word-at-requires
     cast-size
     add-if1
     returns
     is-whole-requires
-    word-at-requires-2
+    le-word-at-requires-2
     cast-from
     add-from
     returns-2

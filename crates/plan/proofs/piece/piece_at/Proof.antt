@@ -5,8 +5,8 @@ use borrow.Author.Needs.{needs}
 use Rattle.plan.proofs.piece.piece_at.Statement.{statement}
 use Rattle.plan.proofs.piece.piece_at.Tie as tie
 
-word-at-requires : tie.Need-word-at-requires
-word-at-requires c κs = search needs
+le-word-at-requires : tie.Need-le-word-at-requires
+le-word-at-requires c κs = search needs
 
 cast-at : tie.Need-cast-at
 cast-at c = search needs
@@ -17,26 +17,26 @@ mul-at c = search needs
 add-at : tie.Need-add-at
 add-at c = search needs
 
-word-at-requires-2 : tie.Need-word-at-requires-2
-word-at-requires-2 c κs = search needs
+le-word-at-requires-2 : tie.Need-le-word-at-requires-2
+le-word-at-requires-2 c κs = search needs
 
-add-word-at : tie.Need-add-word-at
-add-word-at c = search needs
+add-le-word-at : tie.Need-add-le-word-at
+add-le-word-at c = search needs
 
-word-at-requires-3 : tie.Need-word-at-requires-3
-word-at-requires-3 c κs = search needs
+le-word-at-requires-3 : tie.Need-le-word-at-requires-3
+le-word-at-requires-3 c κs = search needs
 
-add-word-at-2 : tie.Need-add-word-at-2
-add-word-at-2 c = search needs
+add-le-word-at-2 : tie.Need-add-le-word-at-2
+add-le-word-at-2 c = search needs
 
-word-at-requires-4 : tie.Need-word-at-requires-4
-word-at-requires-4 c κs = search needs
+le-word-at-requires-4 : tie.Need-le-word-at-requires-4
+le-word-at-requires-4 c κs = search needs
 
-add-word-at-3 : tie.Need-add-word-at-3
-add-word-at-3 c = search needs
+add-le-word-at-3 : tie.Need-add-le-word-at-3
+add-le-word-at-3 c = search needs
 
-word-at-requires-5 : tie.Need-word-at-requires-5
-word-at-requires-5 c κs = search needs
+le-word-at-requires-5 : tie.Need-le-word-at-requires-5
+le-word-at-requires-5 c κs = search needs
 
 judge-kind-requires : tie.Need-judge-kind-requires
 judge-kind-requires c κs = search needs
@@ -45,7 +45,7 @@ returns : tie.Need-returns
 unfolding pieceAt judgeAt
 returns c = (
   simp
-      (sym (c .before .before .before .before .before .word-at .ensures), sym (c .before .before .before .before .word-at2 .ensures), sym (c .before .before .before .word-at3 .ensures), sym (c .before .before .word-at4 .ensures), sym (c .before .word-at5 .ensures))
+      (sym (c .before .before .before .before .before .le-word-at .ensures), sym (c .before .before .before .before .le-word-at2 .ensures), sym (c .before .before .before .le-word-at3 .ensures), sym (c .before .before .le-word-at4 .ensures), sym (c .before .le-word-at5 .ensures))
       (c .judge-kind .ensures .0),
   c .judge-kind .ensures .1,
 )
@@ -54,16 +54,16 @@ pub piece-at-spec : {M : Type 1} → statement M
 piece-at-spec =
     tie.close
     (tie.spec
-    word-at-requires
+    le-word-at-requires
     cast-at
     mul-at
     add-at
-    word-at-requires-2
-    add-word-at
-    word-at-requires-3
-    add-word-at-2
-    word-at-requires-4
-    add-word-at-3
-    word-at-requires-5
+    le-word-at-requires-2
+    add-le-word-at
+    le-word-at-requires-3
+    add-le-word-at-2
+    le-word-at-requires-4
+    add-le-word-at-3
+    le-word-at-requires-5
     judge-kind-requires
     returns)

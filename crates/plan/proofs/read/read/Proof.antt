@@ -13,16 +13,16 @@ unfolding readPlan
 returns c = let s = c .before .before .args .plan .now in
     rw (lt-ltb (length s) 16 (omega arith))
 
-word-at-requires : tie.Need-word-at-requires
-word-at-requires c κs = search needs
+le-word-at-requires : tie.Need-le-word-at-requires
+le-word-at-requires c κs = search needs
 
 returns-2 : tie.Need-returns-2
 unfolding readPlan
 returns-2 c = let s = c .before .before .before .before .args .plan .now in
     rw (le-ltb (length s) 16 (omega arith), lt-ltb 64 (countOf s) (omega arith))
 
-word-at-requires-2 : tie.Need-word-at-requires-2
-word-at-requires-2 c κs = search needs
+le-word-at-requires-2 : tie.Need-le-word-at-requires-2
+le-word-at-requires-2 c κs = search needs
 
 cast-if3 : tie.Need-cast-if3
 cast-if3 c = search needs
@@ -41,14 +41,14 @@ unfolding readPlan
 returns-3 c = let s = c .before .before .before .before .before .before .args .plan .now in
     rw (le-ltb (length s) 16 (omega arith), le-ltb 64 (countOf s) (omega arith), lt-ltb (length s) (tableOf s + 16 * countOf s) (omega arith))
 
-word-at-requires-3 : tie.Need-word-at-requires-3
-word-at-requires-3 c κs = search needs
+le-word-at-requires-3 : tie.Need-le-word-at-requires-3
+le-word-at-requires-3 c κs = search needs
 
 cast-if4 : tie.Need-cast-if4
 cast-if4 c = search needs
 
-word-at-requires-4 : tie.Need-word-at-requires-4
-word-at-requires-4 c κs = search needs
+le-word-at-requires-4 : tie.Need-le-word-at-requires-4
+le-word-at-requires-4 c κs = search needs
 
 cast-if4-2 : tie.Need-cast-if4-2
 cast-if4-2 c = search needs
@@ -67,24 +67,24 @@ read-pieces-requires c κs = search needs
 returns-5 : tie.Need-returns-5
 unfolding readPlan
 returns-5 c = let s = c .before .before .before .before .before .before .before .before .before .before .args .plan .now in
-    rw (le-ltb (length s) 16 (omega arith), le-ltb 64 (countOf s) (omega arith), le-ltb (length s) (tableOf s + 16 * countOf s) (omega arith), le-ltb (length s) (dataAt s + dataLength s) (omega arith)) (rw (c .before .before .before .before .before .before .before .word-at .ensures) at (c .read-pieces .ensures))
+    rw (le-ltb (length s) 16 (omega arith), le-ltb 64 (countOf s) (omega arith), le-ltb (length s) (tableOf s + 16 * countOf s) (omega arith), le-ltb (length s) (dataAt s + dataLength s) (omega arith)) (rw (c .before .before .before .before .before .before .before .le-word-at .ensures) at (c .read-pieces .ensures))
 
 pub read-spec : {M : Type 1} → statement M
 read-spec =
     tie.close
     (tie.spec
     returns
-    word-at-requires
+    le-word-at-requires
     returns-2
-    word-at-requires-2
+    le-word-at-requires-2
     cast-if3
     cast-if3-2
     mul-if3
     add-if3
     returns-3
-    word-at-requires-3
+    le-word-at-requires-3
     cast-if4
-    word-at-requires-4
+    le-word-at-requires-4
     cast-if4-2
     add-if4
     returns-4

@@ -9,7 +9,7 @@ use Rattle.scp.proofs.packet.is_misaligned.Tie as tie
 address : (c : tie.After-is-aligned)
     → let s = c .before .before .before .before .args .packet .now in
     c .is-aligned .result ≡ aligned (arg3 s) (arg1 s)
-address c = c .is-aligned .ensures ∙ simp (c .before .before .word-at .ensures, c .before .word-at2 .ensures)
+address c = c .is-aligned .ensures ∙ simp (c .before .before .le-word-at .ensures, c .before .le-word-at2 .ensures)
 
 -- the test of the length
 size : (c : tie.After-is-aligned2)
@@ -18,19 +18,19 @@ size : (c : tie.After-is-aligned2)
     c .is-aligned2 .result ≡ aligned (arg3 s) (arg2 s)
 size c =
     let d = c .before .before .before .before .before in
-    c .is-aligned2 .ensures ∙ simp (d .word-at .ensures, c .before .word-at3 .ensures)
+    c .is-aligned2 .ensures ∙ simp (d .le-word-at .ensures, c .before .le-word-at3 .ensures)
 
-word-at-requires : tie.Need-word-at-requires
-word-at-requires c κs = search needs
+le-word-at-requires : tie.Need-le-word-at-requires
+le-word-at-requires c κs = search needs
 
-word-at-requires-2 : tie.Need-word-at-requires-2
-word-at-requires-2 c κs = search needs
+le-word-at-requires-2 : tie.Need-le-word-at-requires-2
+le-word-at-requires-2 c κs = search needs
 
 is-aligned-requires : tie.Need-is-aligned-requires
 is-aligned-requires c κs = search needs
 
-word-at-requires-3 : tie.Need-word-at-requires-3
-word-at-requires-3 c κs = search needs
+le-word-at-requires-3 : tie.Need-le-word-at-requires-3
+le-word-at-requires-3 c κs = search needs
 
 is-aligned-requires-2 : tie.Need-is-aligned-requires-2
 is-aligned-requires-2 c κs = search needs
@@ -52,10 +52,10 @@ pub is-misaligned-spec : {M : Type 1} → statement M
 is-misaligned-spec =
     tie.close
     (tie.spec
-    word-at-requires
-    word-at-requires-2
+    le-word-at-requires
+    le-word-at-requires-2
     is-aligned-requires
-    word-at-requires-3
+    le-word-at-requires-3
     is-aligned-requires-2
     returns
     returns-2

@@ -21,8 +21,8 @@ returns c = let x = c .before .before .before .before .before .before .before .b
     let e = c .before .before .coded .ensures in
     simp (e .0, e .1, lt-ltb (length (x .packet .now)) 8 (omega arith), coded-answer (x .packet .now) (x .memory .now) (x .output .now) (omega arith) 0x81)
 
-word-at-requires : tie.Need-word-at-requires
-word-at-requires c κs = search needs
+le-word-at-requires : tie.Need-le-word-at-requires
+le-word-at-requires c κs = search needs
 
 load-requires : tie.Need-load-requires
 load-requires c κs = search needs
@@ -40,7 +40,7 @@ returns-2 : tie.Need-returns-2
 unfolding loadPacket
 returns-2 c = let d = c .before .before .before .before .before .before in
     let x = d .before .before .before .before .before .before .before .args in
-    let l = rw (d .before .before .word-at .ensures) at (d .load .ensures) in
+    let l = rw (d .before .before .le-word-at .ensures) at (d .load .ensures) in
     simp (le-ltb (length (x .packet .now)) 8 (omega arith), sym l) (c .before .before .loaded .ensures (d .load .last .1 .0))
 
 pub load-spec : {M : Type 1} → statement M
@@ -50,7 +50,7 @@ load-spec =
     coded-requires
     same-length
     returns
-    word-at-requires
+    le-word-at-requires
     load-requires
     loaded-requires
     same-length-2

@@ -25,8 +25,8 @@ returns c = λ (m : List ℕ). let x = c .before .before .before .before .before
     let e = c .before .before .coded .ensures in
     simp (e .0, e .1, lt-ltb (length (x .packet .now)) 8 (omega arith), coded-answer (x .packet .now) m (x .output .now) (omega arith) 0x81)
 
-word-at-requires : tie.Need-word-at-requires
-word-at-requires c κs = search needs
+le-word-at-requires : tie.Need-le-word-at-requires
+le-word-at-requires c κs = search needs
 
 run-entry-requires : tie.Need-run-entry-requires
 run-entry-requires c κs = search needs
@@ -43,7 +43,7 @@ coded-requires-2 c κs = search needs
 returns-2 : tie.Need-returns-2
 unfolding runPacket
 returns-2 c = λ (m : List ℕ). let x = c .before .before .before .before .before .before .before .before .args in
-    let r = rw (c .before .before .before .before .word-at .ensures) at (sym (c .before .before .before .run-entry .ensures) ∙ ap runEntryOf (c .before .entry .given .1)) in
+    let r = rw (c .before .before .before .before .le-word-at .ensures) at (sym (c .before .before .before .run-entry .ensures) ∙ ap runEntryOf (c .before .entry .given .1)) in
     simp (le-ltb (length (x .packet .now)) 8 (omega arith), r, store-nil)
 
 same-length-2 : tie.Need-same-length-2
@@ -54,7 +54,7 @@ unfolding runPacket
 returns-3 c = λ (m : List ℕ). let d = c .before .before .before .before in
     let x = d .before .before .before .before .before .before .before .args in
     let e = c .before .before .coded2 .ensures in
-    let r = rw (d .before .before .before .word-at .ensures) at (sym (d .before .before .run-entry .ensures) ∙ ap runEntryOf (d .enum-told .given .1)) in
+    let r = rw (d .before .before .before .le-word-at .ensures) at (sym (d .before .before .run-entry .ensures) ∙ ap runEntryOf (d .enum-told .given .1)) in
     simp (e .0, e .1, le-ltb (length (x .packet .now)) 8 (omega arith), r, coded-answer (x .packet .now) m (x .output .now) (omega arith) 0x84)
 
 pub run-spec : {M : Type 1} → statement M
@@ -64,7 +64,7 @@ run-spec =
     coded-requires
     same-length
     returns
-    word-at-requires
+    le-word-at-requires
     run-entry-requires
     enum-known-entry
     enum-told

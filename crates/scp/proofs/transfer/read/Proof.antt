@@ -70,8 +70,8 @@ returns-3 c =
     (simp (long-enough (t .before .before .before .before), small-enough (t .before .before), sym (t .before .is-misaligned .ensures) ∙ t .if3 .taken))
     (c .before .before .coded3 .ensures)
 
-word-at-requires : tie.Need-word-at-requires
-word-at-requires c κs = search needs
+le-word-at-requires : tie.Need-le-word-at-requires
+le-word-at-requires c κs = search needs
 
 coded-requires-4 : tie.Need-coded-requires-4
 coded-requires-4 c κs = search needs
@@ -104,7 +104,7 @@ returns-5 c =
     let t = e .before .before in
     let x = t .before .before .before .before .before .before .before .before .args in
     simp
-    (long-enough (t .before .before .before .before), small-enough (t .before .before), well-aligned t, ne-eqb (arg2 (x .packet .now)) 0 (λ z. e .if4 .left (e .before .word-at .ensures ∙ z)))
+    (long-enough (t .before .before .before .before), small-enough (t .before .before), well-aligned t, ne-eqb (arg2 (x .packet .now)) 0 (λ z. e .if4 .left (e .before .le-word-at .ensures ∙ z)))
     (c .before .before .read-range .ensures)
 
 pub read-spec : {M : Type 1} → statement M
@@ -122,7 +122,7 @@ read-spec =
     coded-requires-3
     same-length-3
     returns-3
-    word-at-requires
+    le-word-at-requires
     coded-requires-4
     same-length-4
     returns-4

@@ -20,7 +20,7 @@ placed :
 placed c =
     let x = c .before .before .before .before .before .before .before .before .before .args in
     looked (lookup (x .map)) Read (arg1 (x .packet .now)) (arg2 (x .packet .now))
-    (c .before .before .before .before .before .word-at .ensures) (c .before .before .before .before .word-at2 .ensures) (c .before .before .before .lookup .ensures) (c .before .place .given .1)
+    (c .before .before .before .before .before .le-word-at .ensures) (c .before .before .before .before .le-word-at2 .ensures) (c .before .before .before .lookup .ensures) (c .before .place .given .1)
 
 -- it lies in memory
 inside :
@@ -31,11 +31,11 @@ inside c =
     let s = c .before .before .before .before .before .before .before .before .before in
     lawful (s .args .map) (length (s .args .memory .now)) (s .pre .2) .inside Read _ _ _ (placed c)
 
-word-at-requires : tie.Need-word-at-requires
-word-at-requires c κs = search needs
+le-word-at-requires : tie.Need-le-word-at-requires
+le-word-at-requires c κs = search needs
 
-word-at-requires-2 : tie.Need-word-at-requires-2
-word-at-requires-2 c κs = search needs
+le-word-at-requires-2 : tie.Need-le-word-at-requires-2
+le-word-at-requires-2 c κs = search needs
 
 cast-size : tie.Need-cast-size
 cast-size c = search needs
@@ -82,9 +82,9 @@ returns c =
     let x = k .before .before .before .before .before .before .before .before .before .args in
     let p = k .before .place .given .0 .0 in
     let n = arg2 (x .packet .now) in
-    let q : p + k .before .before .before .before .word-at2 .result - p ≡ n = omega arith in
+    let q : p + k .before .before .before .before .le-word-at2 .result - p ≡ n = omega arith in
     let e = rw (q, c .before .before .before .before .before .before .before .coded .ensures .1) at (c .before .before .bytes .ensures) in
-    rw (k .before .before .before .before .word-at2 .ensures)
+    rw (k .before .before .before .before .le-word-at2 .ensures)
     (data-return (x .packet .now) (x .memory .now) (x .output .now) (omega arith) p n (inside k) (omega arith) (simp (placed k)) e)
 
 same-length-2 : tie.Need-same-length-2
@@ -94,15 +94,15 @@ returns-2 : tie.Need-returns-2
 returns-2 c =
     let k = c .before .before .before .before in
     let x = k .before .before .before .before .before .before .before .before .args in
-    let e = looked (lookup (x .map)) Read (arg1 (x .packet .now)) (arg2 (x .packet .now)) (k .before .before .before .before .word-at .ensures) (k .before .before .before .word-at2 .ensures) (k .before .before .lookup .ensures) (k .enum-told .given .1) in
+    let e = looked (lookup (x .map)) Read (arg1 (x .packet .now)) (arg2 (x .packet .now)) (k .before .before .before .before .le-word-at .ensures) (k .before .before .before .le-word-at2 .ensures) (k .before .before .lookup .ensures) (k .enum-told .given .1) in
     coded-return (x .packet .now) (x .memory .now) (x .output .now) (omega arith) ARG (simp e) (c .before .before .coded2 .ensures)
 
 pub read-range-spec : {M : Type 1} → statement M
 read-range-spec =
     tie.close
     (tie.spec
-    word-at-requires
-    word-at-requires-2
+    le-word-at-requires
+    le-word-at-requires-2
     cast-size
     lookup-requires
     enum-known-place

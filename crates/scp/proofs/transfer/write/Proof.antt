@@ -50,8 +50,8 @@ returns-2 c =
     (simp (long-enough (t .before .before), sym (t .before .is-too-large .ensures) ∙ t .if2 .taken))
     (c .before .before .coded2 .ensures)
 
-word-at-requires : tie.Need-word-at-requires
-word-at-requires c κs = search needs
+le-word-at-requires : tie.Need-le-word-at-requires
+le-word-at-requires c κs = search needs
 
 cast-if3 : tie.Need-cast-if3
 cast-if3 c = search needs
@@ -103,7 +103,7 @@ write-spec =
     coded-requires-2
     same-length-2
     returns-2
-    word-at-requires
+    le-word-at-requires
     cast-if3
     add-if3
     coded-requires-3

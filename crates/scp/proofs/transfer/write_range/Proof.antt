@@ -12,11 +12,11 @@ use Rattle.scp.proofs.Transfers.{looked, coded-return, data-stored}
 use Rattle.scp.proofs.transfer.write_range.Statement.{statement}
 use Rattle.scp.proofs.transfer.write_range.Tie as tie
 
-word-at-requires : tie.Need-word-at-requires
-word-at-requires c κs = search needs
+le-word-at-requires : tie.Need-le-word-at-requires
+le-word-at-requires c κs = search needs
 
-word-at-requires-2 : tie.Need-word-at-requires-2
-word-at-requires-2 c κs = search needs
+le-word-at-requires-2 : tie.Need-le-word-at-requires-2
+le-word-at-requires-2 c κs = search needs
 
 cast-size : tie.Need-cast-size
 cast-size c = search needs
@@ -62,7 +62,7 @@ returns c =
     let p = k .before .place .given .0 .0 in
     let n = arg2 (x .packet .now) in
     let d = store (x .memory .now) p (dataOf (x .packet .now)) in
-    let e = looked (lookup (x .map)) Write (arg1 (x .packet .now)) n (k .before .before .before .before .before .word-at .ensures) (k .before .before .before .before .word-at2 .ensures) (k .before .before .before .lookup .ensures) (k .before .place .given .1) in
+    let e = looked (lookup (x .map)) Write (arg1 (x .packet .now)) n (k .before .before .before .before .before .le-word-at .ensures) (k .before .before .before .before .le-word-at2 .ensures) (k .before .before .before .lookup .ensures) (k .before .place .given .1) in
     let i = lawful (x .map) (length (x .memory .now)) (s .pre .1) .inside Write _ _ _ e in
     rw (c .before .before .before .before .before .before .bytes .ensures ∙ data-stored (x .packet .now) (x .memory .now) p n (s .pre .2) i)
     (coded-return (x .packet .now) d (x .output .now) (omega arith) OK (simp e) (c .before .before .coded .ensures))
@@ -74,15 +74,15 @@ returns-2 : tie.Need-returns-2
 returns-2 c =
     let k = c .before .before .before .before in
     let x = k .before .before .before .before .before .before .before .before .args in
-    let e = looked (lookup (x .map)) Write (arg1 (x .packet .now)) (arg2 (x .packet .now)) (k .before .before .before .before .word-at .ensures) (k .before .before .before .word-at2 .ensures) (k .before .before .lookup .ensures) (k .enum-told .given .1) in
+    let e = looked (lookup (x .map)) Write (arg1 (x .packet .now)) (arg2 (x .packet .now)) (k .before .before .before .before .le-word-at .ensures) (k .before .before .before .le-word-at2 .ensures) (k .before .before .lookup .ensures) (k .enum-told .given .1) in
     coded-return (x .packet .now) (x .memory .now) (x .output .now) (omega arith) ARG (simp e) (c .before .before .coded2 .ensures)
 
 pub write-range-spec : {M : Type 1} → statement M
 write-range-spec =
     tie.close
     (tie.spec
-    word-at-requires
-    word-at-requires-2
+    le-word-at-requires
+    le-word-at-requires-2
     cast-size
     lookup-requires
     enum-known-place

@@ -30,8 +30,8 @@ returns c =
     let x = t .before .before .before .before .before .args in
     coded-return (x .packet .now) (x .memory .now) (x .output .now) (omega arith) ARG (simp (sym (t .before .is-misaligned .ensures) ∙ t .if1 .taken)) (c .before .before .coded .ensures)
 
-word-at-requires : tie.Need-word-at-requires
-word-at-requires c κs = search needs
+le-word-at-requires : tie.Need-le-word-at-requires
+le-word-at-requires c κs = search needs
 
 coded-requires-2 : tie.Need-coded-requires-2
 coded-requires-2 c κs = search needs
@@ -62,7 +62,7 @@ returns-3 c =
     let t = e .before .before in
     let x = t .before .before .before .before .before .args in
     simp
-    (well-aligned t, ne-eqb (arg2 (x .packet .now)) 0 (λ z. e .if2 .left (e .before .word-at .ensures ∙ z)))
+    (well-aligned t, ne-eqb (arg2 (x .packet .now)) 0 (λ z. e .if2 .left (e .before .le-word-at .ensures ∙ z)))
     (c .before .before .before .before .write-range .ensures)
 
 pub write-whole-spec : {M : Type 1} → statement M
@@ -73,7 +73,7 @@ write-whole-spec =
     coded-requires
     same-length
     returns
-    word-at-requires
+    le-word-at-requires
     coded-requires-2
     same-length-2
     returns-2

@@ -12,7 +12,7 @@ use Rattle.srom.specs.Walk.{itemAt, walk, padsEnd}
 use Rattle.memory_map.specs.Lookup.Laws.{lawful}
 use Rattle.memory_map.specs.Lookup.{lookup}
 use Rattle.memory_map.specs.declared.region.Right.the-variants.{Write}
-use Rattle.words.specs.Store.Laws.{length-store}
+use Rattle.words.specs.Store.Laws.{length-store, store-fits}
 use Rattle.words.specs.Swap.{swapWords}
 use Rattle.srom.proofs.store.store_blocks.Statement.{statement}
 use Rattle.srom.proofs.store.store_blocks.Tie as tie
@@ -67,17 +67,17 @@ item-at-requires c κs = let x = c .before .before .before .before .args in (ome
 enum-known-place : tie.Need-enum-known-place Inv-loop μ-loop
 enum-known-place c = search needs
 
-sub-store-block : tie.Need-sub-store-block Inv-loop μ-loop
-sub-store-block c = there (c .before) .ordered
+sub-put : tie.Need-sub-put Inv-loop μ-loop
+sub-put c = there (c .before) .ordered
 
-part-store-block-start : tie.Need-part-store-block-start Inv-loop μ-loop
-part-store-block-start c = omega (arith, there (c .before), there (c .before) .facts)
+part-put-start : tie.Need-part-put-start Inv-loop μ-loop
+part-put-start c = omega (arith, there (c .before), there (c .before) .facts)
 
-part-store-block-end : tie.Need-part-store-block-end Inv-loop μ-loop
-part-store-block-end c = omega (arith, there (c .before), there (c .before) .facts)
+part-put-end : tie.Need-part-put-end Inv-loop μ-loop
+part-put-end c = omega (arith, there (c .before), there (c .before) .facts)
 
-store-block-requires : tie.Need-store-block-requires Inv-loop μ-loop
-store-block-requires c κs = let k = c .before .before in let l = there k in (rw (l .part) (inside k), rw (l .part) (omega (arith, l, l .facts)))
+put-requires : tie.Need-put-requires Inv-loop μ-loop
+put-requires c κs = search needs
 
 loop-less : tie.Need-loop-less Inv-loop μ-loop
 loop-less c = let k = c .before .before .before .before .before in omega (arith, there k, there k .facts)
@@ -89,9 +89,10 @@ loop-again c = let k = c .before .before .before .before .before in
     let f = k .before .place .given .0 in
     let n = i .before .before .loop in
     let e = item-there i ∙ ap (itemOf (x .s .now)) (k .before .place .given .1) in
-    let w = swapWords (take (f .1 .1 .0 - f .1 .0) (drop (f .1 .0) (x .s .now))) in (
-      rw (c .before .before .store-block .ensures) (sym (stores-on (lookup (x .map)) (x .s .now) (n .next) (n .memory) e) ∙ n .inv .0),
-      rw (c .before .before .store-block .ensures) (length-store (n .memory) (f .0) w (rw (there k .size) (inside k)) ∙ n .inv .1),
+    let w = swapWords (take (f .1 .1 .0 - f .1 .0) (drop (f .1 .0) (x .s .now))) in
+    let stored = c .before .before .put .ensures ∙ store-fits (n .memory) (f .0) w (rw (there k .size) (inside k)) in (
+      rw (stored) (sym (stores-on (lookup (x .map)) (x .s .now) (n .next) (n .memory) e) ∙ n .inv .0),
+      rw (stored) (length-store (n .memory) (f .0) w (rw (there k .size) (inside k)) ∙ n .inv .1),
     )
 
 enum-told : tie.Need-enum-told Inv-loop μ-loop
@@ -128,10 +129,10 @@ store-blocks-spec =
     pads-end-requires
     item-at-requires
     enum-known-place
-    sub-store-block
-    part-store-block-start
-    part-store-block-end
-    store-block-requires
+    sub-put
+    part-put-start
+    part-put-end
+    put-requires
     loop-less
     loop-again
     enum-told

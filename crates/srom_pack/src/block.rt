@@ -1,0 +1,101 @@
+// One block of the image.
+ghost use mathlib.Core.Path.{_≡_};
+ghost use mathlib.Core.List.{_∷_, _++_};
+ghost use Prim.Native.Nat.{_+_, _*_, _%_, _≤_};
+ghost use lib.ListN.{length};
+ghost use Rattle.words.specs.Bytes.{bigEndian};
+ghost use Rattle.words.specs.Repeat.{repeated, filling};
+ghost use Rattle.words.specs.Store.{store};
+ghost use Rattle.words.specs.Swap.{swapWords};
+ghost use Rattle.plan.specs.Code.{pieceIs};
+ghost use Rattle.srom_pack.specs.Image.{block, blockOf};
+ghost use Rattle.srom_pack.specs.Code.{bytesIs, Writable};
+use plan::piece::Piece;
+
+// The start byte, the length in words and the address.
+fn put_header(output: &mut [u8], at: usize, words: u16, address: u32)
+    requires { ⌜ at + 7 ≤ length (now output) ⌝ }
+    ensures { λ _. ⌜ now (output .exit) ≡ store (now (output .entry)) at (0x3a ∷ (bigEndian 2 words ++ bigEndian 4 address)) ⌝ }
+{
+    output[at] = 0x3a;
+    words::put::be_half(output, at + 1, words);
+    words::put::be_word(output, at + 3, address);
+}
+
+// A word repeated, Big Endian.
+fn put_fill(output: &mut [u8], at: usize, count: usize, word: u32)
+    requires { ⌜ at + 4 * count ≤ length (now output) ⌝ }
+    ensures { λ _. ⌜ now (output .exit) ≡ store (now (output .entry)) at (swapWords (repeated count word)) ⌝ }
+{
+    let mut i: usize = 0;
+    while i < count {
+        words::put::be_word(output, at + 4 * i, word);
+        i += 1;
+    }
+}
+
+// A block of a word repeated over so many bytes.
+fn fill_block(output: &mut [u8], at: usize, address: u32, size: usize, word: u32)
+    requires { ⌜ (at + (7 + size) ≤ length (now output)) × (size % 4 ≡ 0) × (size ≤ 65536) ⌝ }
+    ensures { λ _. ⌜ now (output .exit) ≡ store (now (output .entry)) at (block address (filling size word)) ⌝ }
+{
+    let count = size / 4;
+    put_header(output, at, count as u16, address);
+    put_fill(output, at + 7, count, word);
+}
+
+// A block of bytes that are whole words.
+fn data_block(output: &mut [u8], at: usize, address: u32, source: &[u8])
+    requires { ⌜ (at + (7 + length (now source)) ≤ length (now output)) × (length (now source) % 4 ≡ 0) × (length (now source) ≤ 65536) ⌝ }
+    ensures { λ _. ⌜ now (output .exit) ≡ store (now (output .entry)) at (block address (now (source .entry))) ⌝ }
+{
+    let count = source.len() / 4;
+    put_header(output, at, count as u16, address);
+    words::swap::put(output, at + 7, source);
+}
+
+// The bytes of a piece's block.
+pub(crate) fn size_of(piece: Piece) -> usize
+    ensures { λ r. ⌜ (bytesIs piece ≤ 65536 → r ≡ 7 + bytesIs piece) ⌝ }
+{
+    match piece {
+        Piece::Put {
+            address: _,
+            from: _,
+            length,
+        } => std::num::wrapping_add_usize(7, length),
+        Piece::Fill {
+            address: _,
+            length,
+            word: _,
+        } => std::num::wrapping_add_usize(7, length),
+        Piece::Run { address: _ } => 7,
+    }
+}
+
+// The block of a piece of the plan.
+pub(crate) fn write_block(plan: &[u8], piece: Piece, output: &mut [u8], at: usize)
+    requires { ⌜ Writable (now plan) piece × (at + (7 + bytesIs piece) ≤ length (now output)) ⌝ }
+    ensures { λ _. ⌜ now (output .exit) ≡ store (now (output .entry)) at (blockOf (pieceIs (now (plan .entry)) piece)) ⌝ }
+{
+    match piece {
+        Piece::Put {
+            address,
+            from,
+            length,
+        } => {
+            let end = from + length;
+            data_block(output, at, address, &plan[from..end]);
+        }
+        Piece::Fill {
+            address,
+            length,
+            word,
+        } => {
+            fill_block(output, at, address, length, word);
+        }
+        Piece::Run { address } => {
+            put_header(output, at, 0, address);
+        }
+    }
+}

@@ -1,0 +1,84 @@
+// The packer.
+ghost use mathlib.Core.Path.{_≡_};
+ghost use Prim.Native.Nat.{_≤_};
+ghost use lib.ListN.{length};
+ghost use Rattle.words.specs.Store.{store};
+ghost use Rattle.plan.specs.Packed.{outputAfter};
+ghost use Rattle.srom_pack.specs.Image.{sromImage, packSrom};
+ghost use Rattle.srom_pack.specs.Code.{planPieces, Accepted, outcomeOf, outcomeIs};
+use memory_map::answer::OUTPUT_TOO_SMALL;
+use memory_map::answer::Refusal;
+use plan::piece::Judged;
+use plan::piece::Target;
+
+// The length of the image, or the refusal.
+pub enum Answer {
+    Packed { size: usize },
+    Refused(Refusal),
+}
+
+// The length of the image of a plan with so many pieces.
+fn image_size(plan: &[u8], count: u32) -> usize
+    requires { ⌜ Accepted (now plan) × (count ≡ length (planPieces (now plan))) × (count ≤ 64) ⌝ }
+    ensures { λ r. ⌜ r ≡ length (sromImage (planPieces (now (plan .entry)))) ⌝ }
+{
+    let mut size: usize = 2;
+    let mut i: u32 = 0;
+    while i < count {
+        match plan::piece::piece_at(plan, Target::Srom, i) {
+            Judged::Good(piece) => {
+                size += crate::block::size_of(piece);
+                i += 1;
+            }
+            Judged::Bad(_) => {
+                return size;
+            }
+        }
+    }
+    size
+}
+
+// The image of a plan with so many pieces, at the output's front.
+fn write_image(plan: &[u8], count: u32, output: &mut [u8])
+    requires { ⌜ Accepted (now plan) × (count ≡ length (planPieces (now plan))) × (count ≤ 64) × (length (sromImage (planPieces (now plan))) ≤ length (now output)) ⌝ }
+    ensures { λ _. ⌜ now (output .exit) ≡ store (now (output .entry)) 0 (sromImage (planPieces (now (plan .entry)))) ⌝ }
+{
+    output[0] = 0x55;
+    let mut at: usize = 1;
+    let mut i: u32 = 0;
+    while i < count {
+        match plan::piece::piece_at(plan, Target::Srom, i) {
+            Judged::Good(piece) => {
+                crate::block::write_block(plan, piece, output, at);
+                at += crate::block::size_of(piece);
+                i += 1;
+            }
+            Judged::Bad(_) => {
+                return;
+            }
+        }
+    }
+    output[at] = 0xff;
+}
+
+// Packs a plan as a serial ROM image at the output's front. A refused plan changes no byte of the output.
+pub fn pack(plan: &[u8], output: &mut [u8]) -> Answer
+    ensures { λ r. ⌜ outcomeIs r ≡ outcomeOf (packSrom (now (plan .entry)) (length (now (output .entry)))) ⌝ }
+    ensures { λ r. ⌜ now (output .exit) ≡ outputAfter (packSrom (now (plan .entry)) (length (now (output .entry)))) (now (output .entry)) ⌝ }
+{
+    match plan::read::read(plan, Target::Srom) {
+        plan::read::Answer::Refused(refusal) => Answer::Refused(refusal),
+        plan::read::Answer::Pieces(pieces) => {
+            let count = pieces as u32;
+            let size = image_size(plan, count);
+            if output.len() < size {
+                return Answer::Refused(Refusal {
+                    number: OUTPUT_TOO_SMALL,
+                    place: pieces,
+                });
+            }
+            write_image(plan, count, output);
+            Answer::Packed { size }
+        }
+    }
+}
