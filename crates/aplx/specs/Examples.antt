@@ -102,6 +102,9 @@ record Stops : Type 0 where
   pub unaligned-source : outcome (entry 1 4224 4129 32 ++ last) ≡ refused 3 0
   pub not-writable : outcome (entry 1 8192 4096 32 ++ last) ≡ refused 4 0
   pub not-readable : outcome (entry 1 4224 12288 32 ++ last) ≡ refused 4 0
+  -- the lengths of both ranges are rounded: the region ends at 4352
+  pub rounded-destination : outcome (entry 1 4336 4224 1 ++ last) ≡ refused 4 0
+  pub rounded-source : outcome (entry 1 4224 4336 1 ++ last) ≡ refused 4 0
   -- an entry that is not permitted behind one that is: nothing is stored
   pub second-refused : loadWith find (memory (entry 3 4224 32 9 ++ (entry 3 8192 32 9 ++ last))) 4096
       ≡ record { outcome = refused 4 1; memory = memory (entry 3 4224 32 9 ++ (entry 3 8192 32 9 ++ last)) }
@@ -129,6 +132,8 @@ stops = record {
   unaligned-source = refl;
   not-writable = refl;
   not-readable = refl;
+  rounded-destination = refl;
+  rounded-source = refl;
   second-refused = refl;
   meets-stop = refl;
   misses-stop = refl;
