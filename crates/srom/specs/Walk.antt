@@ -27,11 +27,12 @@ pub data Item : Type 0 where
   block : Block → ℕ → Item  -- and the offset after it
   halt : Ending → Item
 
--- the block at offset o of n words for an address: 3, then 2 for its data, then 4. "Each word is stored Little Endian."
+-- the block at offset o, with its bytes d and the offset e after it, where its range was found; 4 where it was not
 abbrev pub placed : Found → List ℕ → ℕ → ℕ → Item
 placed (map.at p) d o e = block (record { place = p; bytes = d }) e
 placed (map.refused x) d o e = halt (refuses x o)
 
+-- the block at offset o of n words for address a: 3, then 2 for its data, then 4. "Each word is stored Little Endian."
 unfoldable pub dataBlock : Lookup → List ℕ → ℕ → ℕ → ℕ → Item
 dataBlock find s o n a =
     if not (eqb (a % 4) 0) then halt (refuses 3 o)

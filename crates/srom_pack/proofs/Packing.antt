@@ -1,13 +1,13 @@
 -- What the packer's loops rest on: the piece that the code reads is the plan's, its block fits, and the blocks written one after the other are the image.
 use mathlib.Core.Path.{_≡_, refl, ap, sym, _∙_}
 use mathlib.Core.List.{List, [], _∷_, _++_, append-nil}
-use Prim.Native.Nat.{ℕ, zero, suc, _+_, _≤_, _<_}
+use Prim.Native.Nat.{ℕ, suc, _+_, _≤_, _<_}
 use native.Mathlib.Numerals.{add-one}
 use native.Mathlib.Omega.{arith}
 use lib.ListN.{length, take, drop, getD, set, length-append, length-drop, take-append-drop}
 use lib.Seq.{length-take-le, take-suc, take-length, drop-cons}
 use borrow.Author.Tests.{lt-ltb, le-ltb}
-use Rattle.words.specs.Choice.{All}
+use Rattle.words.specs.Choice.Laws.{all-at}
 use Rattle.words.specs.Bytes.{Bytes}
 use Rattle.words.specs.Store.{store}
 use Rattle.words.specs.Store.Laws.{length-store, store-adjoining, sets-store, store-nil}
@@ -23,12 +23,6 @@ use Rattle.plan.specs.Packed.{refuses, packs, packedAs}
 use Rattle.srom_pack.specs.Image.{blockOf, blocks, sromImage, blockAt, packSrom}
 use Rattle.srom_pack.specs.Image.Laws.{bytesOf, blocks-append, next-block, end-place}
 use Rattle.srom_pack.specs.Code.{bytesIs, Writable, planPieces, Accepted}
-
--- the element at place i
-all-at : {A : Type 0} (P : A → Type 0) (d : A) (l : List A) (i : ℕ) → i < length l → All P l → P (getD l i d)
-all-at P d [] i h a = absurd (omega arith)
-all-at P d (x ∷ xs) zero h a = a .0
-all-at P d (x ∷ xs) (suc i) h a = all-at P d xs i (omega arith) (a .1)
 
 -- ---- a piece of the code that is a piece of the plan
 record Sound (s : List ℕ) (p : code-piece.Piece) : Type 0 where

@@ -2,10 +2,10 @@
 use mathlib.Core.Path.{_≡_, refl, sym}
 use mathlib.Core.Bool.{Bool, true, false, _&&_}
 use mathlib.Core.List.{List, [], _∷_, _++_, reverse, reverseAux}
-use Prim.Native.Nat.{ℕ, zero, suc, _≤_}
+use Prim.Native.Nat.{ℕ, zero, suc, _≤_, _<_}
 use native.Mathlib.Omega.{arith}
 use lib.Dec.{leb}
-use lib.ListN.{take, drop, getD}
+use lib.ListN.{length, take, drop, getD}
 use borrow.Author.Tests.{leb-true, le-leb}
 use Rattle.words.specs.Choice.{if_then_else_, All, every}
 
@@ -52,6 +52,12 @@ every-all t (x ∷ xs) e = let b = both (t x) (every t xs) e in (b .0, every-all
 pub all-elements : {A : Type 0} (P : A → Type 0) (d : A) (l : List A) → ((i : ℕ) → P (getD l i d)) → All P l
 all-elements P d [] f = tt
 all-elements P d (x ∷ xs) f = (f 0, all-elements P d xs (λ i. f (suc i)))
+
+-- the element at place i
+pub all-at : {A : Type 0} (P : A → Type 0) (d : A) (l : List A) (i : ℕ) → i < length l → All P l → P (getD l i d)
+all-at P d [] i h a = absurd (omega arith)
+all-at P d (x ∷ xs) zero h a = a .0
+all-at P d (x ∷ xs) (suc i) h a = all-at P d xs i (omega arith) (a .1)
 
 pub all-map : {A : Type 0} (P Q : A → Type 0) (l : List A) → ((x : A) → P x → Q x) → All P l → All Q l
 all-map P Q [] f h = tt
