@@ -1,12 +1,11 @@
 -- Steps of the commands carried out.
 use mathlib.Core.Path.{_≡_, refl, ap, _∙_}
-use mathlib.Core.Bool.{true, false}
+use mathlib.Core.Bool.{false}
 use mathlib.Core.List.{List}
 use Prim.Native.Nat.{ℕ, suc, _+_, _-_, _*_, _≤_, _<_}
 use native.Mathlib.Nat.{sub-zero}
 use native.Mathlib.Omega.{arith}
 use lib.ListN.{length}
-use Rattle.memory_map.specs.declared.region.Right.{Right}
 use Rattle.memory_map.specs.declared.region.Right.the-variants.{Read}
 use Rattle.memory_map.specs.Lookup.{Lookup, found}
 use Rattle.memory_map.specs.Lookup.Laws.{Lawful}
@@ -16,11 +15,6 @@ use Rattle.aplx.specs.Walk.Laws.{found-at, found-place, Entry, goes-foun
 use Rattle.aplx.specs.Load.{meetsHeader, perform, performAll}
 use Rattle.aplx.specs.Load.Laws.{Performable, Ready, goes-performable}
 use Rattle.aplx.specs.Load.Kept.{length-perform, entry-kept}
-
--- a range that is permitted lies in memory
-pub range-inside :
-    {find : Lookup} {l : ℕ} → Lawful find l → (r : Right) (a n : ℕ) {p : ℕ} → p ≡ placeOf (find r a n) → found (find r a n) ≡ true → p + n ≤ l
-range-inside {find} laws r a n e f = rw e (laws .inside r a n _ (found-at (find r a n) f))
 
 -- the command of the entry at address a
 abbrev pub entryAt : Lookup → List ℕ → ℕ → Command

@@ -19,7 +19,7 @@ use Rattle.memory_map.specs.Lookup.Laws.{Lawful, apart}
 use Rattle.aplx.specs.Command.{Command, copy, fill, exec, other, commandAt}
 use Rattle.aplx.specs.Copy.Laws.{length-copied, copied-outside}
 use Rattle.aplx.specs.Walk.{placeOf}
-use Rattle.aplx.specs.Walk.Laws.{found-at}
+use Rattle.aplx.specs.Walk.Laws.{found-at, range-inside}
 use Rattle.aplx.specs.Load.{meetsHeader, perform}
 use Rattle.aplx.specs.Load.Laws.{Performable}
 
@@ -36,9 +36,8 @@ same-entry s t p a e =
         sym (little-at-part 4 q 4 s (omega arith)) ∙ ap (λ (l : List ℕ). littleEndianAt 4 l 0) (e q x y) ∙ little-at-part 4 q 4 t (omega arith)
 
 module _ (find : Lookup) (m : List ℕ) (laws : Lawful find (length m)) where
-  -- a range that is permitted lies in memory
   inside : (r : Right) (a n : ℕ) → found (find r a n) ≡ true → placeOf (find r a n) + n ≤ length m
-  inside r a n e = laws .inside r a n _ (found-at (find r a n) e)
+  inside r a n e = range-inside laws r a n refl e
 
   filled : (n w : ℕ) → n % 4 ≡ 0 → length (repeated (n / 4) w) ≡ n
   filled n w e = length-repeated (n / 4) w ∙ omega arith

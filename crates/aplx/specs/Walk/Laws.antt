@@ -8,9 +8,11 @@ use native.Mathlib.Numerals.{add-one}
 use native.Mathlib.Omega.{arith}
 use lib.ListN.{length}
 use Rattle.words.specs.Choice.Laws.{true-is-false}
+use Rattle.memory_map.specs.declared.region.Right.{Right}
 use Rattle.memory_map.specs.declared.region.Right.the-variants.{Read}
 use Rattle.memory_map.specs.Outcome.{Stop, Ending, stops, refuses}
 use Rattle.memory_map.specs.Lookup.{Lookup, Found, at, refused, found}
+use Rattle.memory_map.specs.Lookup.Laws.{Lawful}
 use Rattle.aplx.specs.Command.{commandAt}
 use Rattle.aplx.specs.Walk.{Verdict, goes, halts, tests, judgeAt, judge, after, walkFor, walk, placeOf, commands}
 
@@ -25,6 +27,11 @@ found-place e = ap placeOf e
 pub found-at : (f : Found) → found f ≡ true → f ≡ at (placeOf f)
 found-at (at p) e = refl
 found-at (refused x) e = true-is-false (sym e)
+
+-- a range that is permitted lies in memory
+pub range-inside :
+    {find : Lookup} {l : ℕ} → Lawful find l → (r : Right) (a n : ℕ) {p : ℕ} → p ≡ placeOf (find r a n) → found (find r a n) ≡ true → p + n ≤ l
+range-inside {find} laws r a n e f = rw e (laws .inside r a n _ (found-at (find r a n) f))
 
 -- an entry that passed its tests: where it stands
 pub record Entry (find : Lookup) (m : List ℕ) (a i : ℕ) : Type 0 where

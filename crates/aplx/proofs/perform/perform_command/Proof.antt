@@ -7,7 +7,7 @@ use Rattle.memory_map.specs.Lookup.{lookup}
 use Rattle.memory_map.specs.Lookup.Laws.{lawful}
 use Rattle.aplx.specs.Walk.{placeOf}
 use Rattle.aplx.specs.Load.{perform}
-use Rattle.aplx.proofs.Storing.{range-inside}
+use Rattle.aplx.specs.Walk.Laws.{range-inside}
 use Rattle.aplx.proofs.perform.perform_command.Statement.{statement}
 use Rattle.aplx.proofs.perform.perform_command.Tie as tie
 
