@@ -35,6 +35,11 @@ abbrev pub outcomeAt : Ending → ℕ → ℕ → Outcome
 outcomeAt (stops s) t b = accepted s t b
 outcomeAt (refuses n p) t b = refused n p
 
+-- and without it
+abbrev pub endingOf : Outcome → Ending
+endingOf (refused n p) = refuses n p
+endingOf (accepted s t b) = stops s
+
 -- "Memory and output keep every byte" of a refused load
 abbrev pub memoryAt : Ending → List ℕ → List ℕ → List ℕ
 memoryAt (stops s) old new = new

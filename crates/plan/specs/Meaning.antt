@@ -1,4 +1,5 @@
 -- What a plan means, from its pieces, the map's lookup and memory alone (paper 01, "Plans").
+pub mod Laws
 use mathlib.Core.List.{List, [], _∷_}
 use Prim.Native.Nat.{ℕ, suc}
 use lib.ListN.{length, drop}

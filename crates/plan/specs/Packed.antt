@@ -1,4 +1,5 @@
 -- What packing a plan gives (paper 01, "Plans").
+pub mod Laws
 use mathlib.Core.List.{List}
 use Prim.Native.Nat.{ℕ}
 use lib.Dec.{ltb}

@@ -1,5 +1,6 @@
 -- The format of a plan and its reader (paper 01, "Plans"). Offsets and sums are whole numbers.
 pub mod Laws
+pub mod Unit
 use mathlib.Core.Bool.{not, _&&_}
 use mathlib.Core.List.{List, [], _∷_}
 use Prim.Native.Nat.{ℕ, zero, suc, _+_, _*_, _%_}

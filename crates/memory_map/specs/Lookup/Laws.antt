@@ -89,6 +89,9 @@ pub lookup-computes : (m : Map) (r : Right) (a n : ℕ) → lookup m r a n ≡ l
 unfolding lookup
 lookup-computes m r a n = refl
 
+pub lookup-is : (m : Map) → lookup m ≡ lookupIn (regionsOf m)
+lookup-is m = λ d r a n. lookup-computes m r a n d
+
 pub lookup-number : (m : Map) (r : Right) (a k : ℕ) {x : ℕ} → lookup m r a k ≡ refused x → x ≡ 4
 lookup-number m r a k e = in-number (regionsOf m) r a k (sym (lookup-computes m r a k) ∙ e)
 

@@ -35,17 +35,17 @@ module _ (unit : ℕ) (s : List ℕ) (k i : ℕ) where
 refused-no-pieces : {n i : ℕ} {ps : List Piece} → refused n i ≡ pieces ps → ⊥
 refused-no-pieces e = let z : _≡_ {A = ℕ} 0 1 = cc in omega arith
 
-bad-no-good : {n : ℕ} {p : Piece} → bad n ≡ good p → ⊥
+pub bad-no-good : {n : ℕ} {p : Piece} → bad n ≡ good p → ⊥
 bad-no-good e = let z : _≡_ {A = ℕ} 0 1 = cc in omega arith
 
 -- ---- a list of pieces that was read
 -- its first piece, and the others
-record First (j : Judged) (r : Read) (ps : List Piece) : Type 0 where
-  piece : Piece
-  others : List Piece
-  is-good : j ≡ good piece
-  is-read : r ≡ pieces others
-  whole : ps ≡ piece ∷ others
+pub record First (j : Judged) (r : Read) (ps : List Piece) : Type 0 where
+  pub piece : Piece
+  pub others : List Piece
+  pub is-good : j ≡ good piece
+  pub is-read : r ≡ pieces others
+  pub whole : ps ≡ piece ∷ others
 
 first : (j : Judged) (i : ℕ) (r : Read) {ps : List Piece} → next j i r ≡ pieces ps → First j r ps
 first (good p) i (pieces qs) e = record { piece = p; others = qs; is-good = refl; is-read = refl; whole = cc }
@@ -53,7 +53,7 @@ first (good p) i (refused n j) e = absurd (refused-no-pieces e)
 first (bad n) i r e = absurd (refused-no-pieces e)
 
 module _ (unit : ℕ) (s : List ℕ) where
-  first-read : (k i : ℕ) {ps : List Piece} → readPieces unit s (suc k) i ≡ pieces ps → First (pieceAt unit s i) (readPieces unit s k (suc i)) ps
+  pub first-read : (k i : ℕ) {ps : List Piece} → readPieces unit s (suc k) i ≡ pieces ps → First (pieceAt unit s i) (readPieces unit s k (suc i)) ps
   unfolding readPieces
   first-read k i e = first (pieceAt unit s i) i (readPieces unit s k (suc i)) e
 

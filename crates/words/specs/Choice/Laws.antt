@@ -63,6 +63,10 @@ pub all-map : {A : Type 0} (P Q : A → Type 0) (l : List A) → ((x : A) → P 
 all-map P Q [] f h = tt
 all-map P Q (x ∷ xs) f h = (f x (h .0), all-map P Q xs f (h .1))
 
+pub all-both : {A : Type 0} (P Q : A → Type 0) (l : List A) → All P l → All Q l → All (λ x. P x × Q x) l
+all-both P Q [] h g = tt
+all-both P Q (x ∷ xs) h g = ((h .0, g .0), all-both P Q xs (h .1) (g .1))
+
 pub all-append : {A : Type 0} (P : A → Type 0) (l k : List A) → All P l → All P k → All P (l ++ k)
 all-append P [] k h g = g
 all-append P (x ∷ xs) k h g = (h .0, all-append P xs k (h .1) g)

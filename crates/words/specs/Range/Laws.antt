@@ -1,11 +1,11 @@
 -- Laws of ranges.
-use mathlib.Core.Path.{_≡_, refl, _∙_}
+use mathlib.Core.Path.{_≡_, refl, sym, _∙_}
 use mathlib.Core.Bool.{Bool, true, false, _&&_}
 use Prim.Native.Nat.{ℕ, suc, _+_, _-_, _≤_, _<_}
 use native.Mathlib.Omega.{arith}
 use lib.Dec.{ltb, leb}
 use borrow.Author.Tests.{ltb-true, ltb-false, lt-ltb, le-ltb, leb-true, leb-false, lt-leb}
-use Rattle.words.specs.Choice.Laws.{both, leb-same}
+use Rattle.words.specs.Choice.Laws.{true-is-false, both, leb-same}
 use Rattle.words.specs.Range.{meets}
 
 -- one ends where the other begins, or before
@@ -97,6 +97,22 @@ module _ (a n b k : ℕ) where
       go : (t : Bool) → meets a n b k ≡ t → meets a n b k ≡ false
       go true e = absurd (none (meets-shared e))
       go false e = e
+
+-- a part of a range that is not met
+pub misses-part : (d n a k h l : ℕ) → a ≤ h → h + l ≤ a + k → meets d n a k ≡ false → meets d n h l ≡ false
+misses-part d n a k h l x y o = go (meets d n h l) refl
+  where
+    go : (t : Bool) → meets d n h l ≡ t → meets d n h l ≡ false
+    go false e = e
+    go true e =
+        let s = meets-shared d n h l e in
+        true-is-false (sym (shared-meets d n a k (record {
+          number = s .number;
+          first-low = s .first-low;
+          first-high = s .first-high;
+          second-low = omega (arith, s .second-low);
+          second-high = omega (arith, s .second-high);
+        })) ∙ o)
 
 -- ---- the same by differences, which do not wrap
 module _ (a n e : ℕ) where

@@ -1,0 +1,90 @@
+-- Demand 3 for every image that carries the plan's pieces, and for what our packers give.
+use mathlib.Core.Path.{_≡_, sym, subst}
+use mathlib.Core.List.{List}
+use Prim.Native.Nat.{ℕ, _≤_}
+use native.Mathlib.Omega.{arith}
+use lib.ListN.{length}
+use Rattle.words.specs.Choice.{All}
+use Rattle.words.specs.Choice.Laws.{all-both}
+use Rattle.words.specs.Bytes.{Bytes}
+use Rattle.memory_map.specs.declared.map.Map.{Map}
+use Rattle.plan.specs.Plan as format
+use Rattle.plan.specs.Plan.{Piece, readPlan}
+use Rattle.plan.specs.Plan.Laws.{Packable, read-header, read-count, packable}
+use Rattle.plan.specs.Plan.Unit.{read-one}
+use Rattle.plan.specs.Packed.Laws.{accepted-facts}
+use Rattle.srom_pack.specs.Image.{sromImage, packSrom}
+use Rattle.aplx_pack.specs.Image.{aplxImage, packAplx}
+use Rattle.series.specs.Series.{Step, series}
+use Rattle.series.specs.Series.Laws.{series-same}
+use Rattle.series.specs.Medium.{Medium, srom, aplx, Spares}
+use Rattle.series.specs.Demand.{ours, loads, means, Granted, Demand3}
+use Rattle.series.specs.Demand.Preserved.{Before, after-load, after-changes}
+use Rattle.series.specs.Demand.Blocks.{srom-load}
+use Rattle.series.specs.Demand.Carries.{Carries}
+use Rattle.series.specs.Demand.PackedImage.{packed-carries, image-short}
+use Rattle.series.specs.Demand.EntryLoad.{aplx-load}
+
+-- the lengths that a medium can express are multiples of this
+abbrev pub unitOf : Medium → ℕ
+unitOf (aplx a) = 32
+unitOf srom = 4
+
+-- the image of these pieces, or, for APLX, any image that carries them
+abbrev pub Carried : Medium → List ℕ → List Piece → Type 0
+Carried (aplx a) image ps = Carries image 0 ps
+Carried srom image ps = image ≡ sromImage ps
+
+-- pieces that a plan may have, and an image that carries them
+module _ (k : Medium) (ps : List Piece) (image : List ℕ) (few : length ps ≤ 64) (good : All (Packable (unitOf k)) ps) (carried : Carried k image ps) (map : Map) where
+  one-load : (i : ℕ) → i ≤ length ps → (m : List ℕ) → Before k map ps image m → loads ours k map ps image i m ≡ means k map ps i m
+  one-load i h m b = go k good carried b
+    where
+      go : (k : Medium) → All (Packable (unitOf k)) ps → Carried k image ps → Before k map ps image m → loads ours k map ps image i m ≡ means k map ps i m
+      go srom good carried b = rw carried (srom-load map ps few good m (b .safe) i)
+      go (aplx a) good carried b = aplx-load a map ps image m i few good carried (b .safe) (b .intact) h
+
+  pub carried-series : (memory : List ℕ) (steps : List Step) → Granted k map ps image memory steps
+      → series (loads ours k map ps image) steps memory ≡ series (means k map ps) steps memory
+  carried-series memory steps g =
+      series-same (loads ours k map ps image) (means k map ps) (Before k map ps image) (λ s. (s .index ≤ length ps) × All (Spares k map image) (s .changes))
+      (λ s m f b. (
+        one-load (s .index) (f .0) m b,
+        after-changes map ps image (means k map ps (s .index) m .memory) k (s .changes) (f .1) (after-load map ps image m k (s .index) b),
+      ))
+      steps memory (all-both _ _ steps (g .indices) (g .alone)) (record { safe = g .sound-map; intact = g .intact })
+
+-- what the reader grants of a plan
+record Plan (unit : ℕ) (plan : List ℕ) (ps : List Piece) : Type 0 where
+  few : length ps ≤ 64
+  good : All (Packable unit) ps
+  alike : readPlan 1 plan ≡ format.pieces ps
+
+plan-facts : (unit : ℕ) (plan : List ℕ) {ps : List Piece} → Bytes plan → readPlan unit plan ≡ format.pieces ps → Plan unit plan ps
+plan-facts unit plan b e = record {
+  few = omega (arith, read-count unit plan e, read-header unit plan e .few);
+  good = packable unit plan b e;
+  alike = read-one unit plan e;
+}
+
+pub demand3 : Demand3 ours
+unfolding packSrom packAplx
+demand3 srom plan room image b e =
+    let f = accepted-facts sromImage (readPlan 4 plan) room e in
+    let p = plan-facts 4 plan b (f .are-read) in
+    record {
+      pieces = f .read;
+      read = p .alike;
+      same = λ map memory steps g. carried-series srom (f .read) image (p .few) (p .good) (f .is-image) map memory steps g;
+    }
+demand3 (aplx a) plan room image b e =
+    let f = accepted-facts aplxImage (readPlan 32 plan) room e in
+    let p = plan-facts 32 plan b (f .are-read) in
+    let c = packed-carries (f .read) (image-short (f .read) (p .few) (p .good)) (p .good) in
+    let c : Carries image 0 (f .read) = subst (λ (s : List ℕ). Carries s 0 (f .read)) (sym (f .is-image)) c in
+    record {
+      pieces = f .read;
+      read = p .alike;
+      same = λ map memory steps g.
+          carried-series (aplx a) (f .read) image (p .few) (p .good) c map memory steps g;
+    }

@@ -1,0 +1,47 @@
+-- Small plans, as bytes, for the refutations of wrong software (paper 01, "Plans").
+use mathlib.Core.Path.{refl}
+use mathlib.Core.List.{List, [], _∷_, _++_}
+use Prim.Native.Nat.{ℕ}
+use lib.ListN.{replicate}
+use Rattle.plan.specs.Plan.{Piece, put, fill}
+use Rattle.aplx_pack.specs.Image.{entry}
+use Rattle.series.specs.Refuted.Example.{Reads}
+use Rattle.series.specs.Refuted.Open.{reader}
+
+-- ---- two fills of 32 bytes
+-- header and pieces are four words each, as the entries of APLX are
+unfoldable pub twoFills : ℕ → ℕ → List ℕ
+twoFills a b = entry 2 16 48 0 ++ (entry 2 a 32 1 ++ entry 2 b 32 2)
+
+abbrev pub two-pieces : ℕ → ℕ → List Piece
+two-pieces a b = fill a 32 1 ∷ fill b 32 2 ∷ []
+
+-- side by side
+pub reads-beside : Reads (twoFills 8192 8224) (two-pieces 8192 8224)
+unfolding twoFills reader
+reads-beside = record { bytes = refl; read = refl }
+
+-- the second lies in no region
+pub reads-outside : Reads (twoFills 8192 12288) (two-pieces 8192 12288)
+unfolding twoFills reader
+reads-outside = record { bytes = refl; read = refl }
+
+-- the second begins before the first and goes over most of it
+pub reads-over : Reads (twoFills 8196 8192) (two-pieces 8196 8192)
+unfolding twoFills reader
+reads-over = record { bytes = refl; read = refl }
+
+-- ---- a fill of 32 bytes, and a put of n bytes over its first ones
+unfoldable pub fillAndPut : ℕ → List ℕ
+fillAndPut n = entry 2 16 48 n ++ (entry 2 8192 32 0x01010101 ++ (entry 1 8192 n 0 ++ replicate n 5))
+
+abbrev pub fill-and-put : ℕ → List Piece
+fill-and-put n = fill 8192 32 0x01010101 ∷ put 8192 (replicate n 5) ∷ []
+
+pub reads-18 : Reads (fillAndPut 18) (fill-and-put 18)
+unfolding fillAndPut reader
+reads-18 = record { bytes = refl; read = refl }
+
+pub reads-20 : Reads (fillAndPut 20) (fill-and-put 20)
+unfolding fillAndPut reader
+reads-20 = record { bytes = refl; read = refl }
