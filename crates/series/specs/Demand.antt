@@ -1,15 +1,5 @@
--- Demand 3 (paper 01, "Plans"), as a statement about any software. It is proved of ours in `proofs/Demand.antt`.
-pub mod Kept
-pub mod Preserved
-pub mod Blocks
-pub mod Carries
-pub mod PackedImage
-pub mod Entries
-pub mod Commands
-pub mod EntryLoad
-pub mod Theorem
-pub mod Resume
-pub mod Corollaries
+-- Demand 3 (paper 01, "Plans"), as a statement about any software. `Proof/Theorem.antt` proves it of ours, and `Refuted` shows that it is
+-- false of wrong ones.
 use mathlib.Core.Path.{_≡_}
 use mathlib.Core.Bool.{true}
 use mathlib.Core.List.{List}
@@ -18,48 +8,17 @@ use lib.ListN.{length}
 use Rattle.words.specs.Choice.{All}
 use Rattle.words.specs.Bytes.{Bytes}
 use Rattle.memory_map.specs.declared.map.Map.{Map}
-use Rattle.memory_map.specs.Outcome.{endingOf, Loaded}
 use Rattle.memory_map.specs.Map.{sound}
 use Rattle.memory_map.specs.Lookup.{lookup}
-use Rattle.srom.specs.Load.{sromLoad}
-use Rattle.aplx.specs.Load.{aplxLoad}
 use Rattle.plan.specs.Plan as format
 use Rattle.plan.specs.Plan.{Piece, readPlan}
-use Rattle.plan.specs.Packed.{Packed, packs}
+use Rattle.plan.specs.Packed.{packs}
 use Rattle.plan.specs.Meaning.{meaning}
-use Rattle.srom_pack.specs.Image.{packSrom}
-use Rattle.aplx_pack.specs.Image.{packAplx}
 use Rattle.series.specs.Series.{Step, Left, series}
-use Rattle.series.specs.Medium.{Medium, srom, aplx, startOf, endingIn, Intact, Spares}
+use Rattle.series.specs.Medium.{Medium, startOf, endingIn, Intact, Spares}
+use Rattle.series.specs.Software.{Software, packed, leaves}
 
--- two packers and two loaders
-pub record Software : Type 0 where
-  pub packSrom : List ℕ → ℕ → Packed  -- plan, room for the image
-  pub packAplx : List ℕ → ℕ → Packed
-  pub loadSrom : Map → List ℕ → ℕ → List ℕ → Loaded  -- map, slice, offset, memory
-  pub loadAplx : Map → List ℕ → ℕ → Loaded  -- map, memory, header address
-
--- the definitions that the promises of the code cite
-abbrev pub ours : Software
-ours = record { packSrom = packSrom; packAplx = packAplx; loadSrom = sromLoad; loadAplx = aplxLoad }
-
--- what the medium's packer gives
-abbrev pub packed : Software → Medium → List ℕ → ℕ → Packed
-packed s (aplx a) plan room = s .packAplx plan room
-packed s srom plan room = s .packSrom plan room
-
--- "a load is a call of the SROM or APLX loader itself": from place o, of an image that lies in its slice or in memory m
-abbrev pub loadAt : Software → Medium → Map → List ℕ → ℕ → List ℕ → Loaded
-loadAt s (aplx a) map image o m = s .loadAplx map m o
-loadAt s srom map image o m = s .loadSrom map image o m
-
--- what it leaves, without the counts of its answer
-abbrev pub leaves : Software → Medium → Map → List ℕ → ℕ → List ℕ → Left
-leaves s k map image o m =
-    let l = loadAt s k map image o m in
-    record { memory = l .memory; ending = endingOf (l .outcome) }
-
--- the load of the stretch from index i
+-- what a load of the stretch from index i leaves
 abbrev pub loads : Software → Medium → Map → List Piece → List ℕ → ℕ → List ℕ → Left
 loads s k map ps image i m = leaves s k map image (startOf k ps i) m
 

@@ -32,7 +32,8 @@ use Rattle.srom_pack.specs.Image.{packSrom}
 use Rattle.aplx_pack.specs.Image.{packAplx}
 use Rattle.series.specs.Series.{Step, Left, series}
 use Rattle.series.specs.Medium.{Medium, srom, aplx, Misses, Intact}
-use Rattle.series.specs.Demand.{Software, packed, loads, Granted, Demand3}
+use Rattle.series.specs.Software.{Software, packed}
+use Rattle.series.specs.Demand.{loads, Granted, Demand3}
 
 -- ---- the map
 -- 128 bytes to read, for the image

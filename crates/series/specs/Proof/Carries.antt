@@ -55,6 +55,10 @@ abbrev pub Carries : List ℕ → ℕ → List Piece → Type 0
 Carries image k [] = EndAt image k
 Carries image k (p ∷ ps) = Says image k p × Carries image (k + 16) ps
 
+pub carries-whole : (image : List ℕ) (k : ℕ) (ps : List Piece) → Carries image k ps → k + 16 ≤ length image
+carries-whole image k [] c = c .entry .whole
+carries-whole image k (p ∷ ps) c = says-whole image k p (c .0)
+
 -- from the entry of piece i on it carries the pieces from i on
 pub carries-drop : (image : List ℕ) (i k : ℕ) (ps : List Piece) → i ≤ length ps → Carries image k ps → Carries image (k + 16 * i) (drop i ps)
 carries-drop image zero k ps h c = let e : k + 16 * 0 ≡ k = omega arith in rw e c

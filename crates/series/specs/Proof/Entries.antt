@@ -26,7 +26,7 @@ use Rattle.aplx.specs.Command as command
 use Rattle.aplx.specs.Command.{Command, copy, exec, commandOf, commandAt}
 use Rattle.aplx.specs.Walk.{goes, halts, permitted, runOf, otherCommand, tests, judge, Walk, after, walkFor}
 use Rattle.series.specs.Medium.{aplx, endingIn}
-use Rattle.series.specs.Demand.Carries.{EntryAt, Says, EndAt, Carries}
+use Rattle.series.specs.Proof.Carries.{EntryAt, Says, EndAt, Carries}
 
 -- the command of a piece's entry, in an image at address a
 abbrev pub ordered : ℕ → (image : List ℕ) (k : ℕ) (x : Piece) → Says image k x → Command

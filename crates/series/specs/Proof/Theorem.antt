@@ -1,13 +1,15 @@
 -- Demand 3 for every image that carries the plan's pieces, and for what our packers give.
 use mathlib.Core.Path.{_≡_, sym, subst}
 use mathlib.Core.List.{List}
-use Prim.Native.Nat.{ℕ, _≤_}
+use Prim.Native.Nat.{ℕ, _+_, _*_, _≤_, _<_}
 use native.Mathlib.Omega.{arith}
-use lib.ListN.{length}
+use lib.ListN.{length, drop}
 use Rattle.words.specs.Choice.{All}
 use Rattle.words.specs.Choice.Laws.{all-both}
 use Rattle.words.specs.Bytes.{Bytes}
+use Rattle.memory_map.specs.declared.region.Right.the-variants.{Read}
 use Rattle.memory_map.specs.declared.map.Map.{Map}
+use Rattle.memory_map.specs.Lookup.Laws.{lawful}
 use Rattle.plan.specs.Plan as format
 use Rattle.plan.specs.Plan.{Piece, readPlan}
 use Rattle.plan.specs.Plan.Laws.{Packable, read-header, read-count, packable}
@@ -17,13 +19,14 @@ use Rattle.srom_pack.specs.Image.{sromImage, packSrom}
 use Rattle.aplx_pack.specs.Image.{aplxImage, packAplx}
 use Rattle.series.specs.Series.{Step, series}
 use Rattle.series.specs.Series.Laws.{series-same}
-use Rattle.series.specs.Medium.{Medium, srom, aplx, Spares}
-use Rattle.series.specs.Demand.{ours, loads, means, Granted, Demand3}
-use Rattle.series.specs.Demand.Preserved.{Before, after-load, after-changes}
-use Rattle.series.specs.Demand.Blocks.{srom-load}
-use Rattle.series.specs.Demand.Carries.{Carries}
-use Rattle.series.specs.Demand.PackedImage.{packed-carries, image-short}
-use Rattle.series.specs.Demand.EntryLoad.{aplx-load}
+use Rattle.series.specs.Medium.{Medium, srom, aplx, startOf, Spares}
+use Rattle.series.specs.Software.{ours}
+use Rattle.series.specs.Demand.{loads, means, Granted, Demand3}
+use Rattle.series.specs.Proof.Preserved.{Before, after-load, after-changes}
+use Rattle.series.specs.Proof.BlockLoad.{srom-load}
+use Rattle.series.specs.Proof.Carries.{Carries, carries-whole, carries-drop}
+use Rattle.series.specs.Proof.Packed.{packed-carries, image-short}
+use Rattle.series.specs.Proof.EntryLoad.{aplx-load}
 
 -- the lengths that a medium can express are multiples of this
 abbrev pub unitOf : Medium → ℕ
@@ -53,6 +56,17 @@ module _ (k : Medium) (ps : List Piece) (image : List ℕ) (few : length ps ≤ 
         after-changes map ps image (means k map ps (s .index) m .memory) k (s .changes) (f .1) (after-load map ps image m k (s .index) b),
       ))
       steps memory (all-both _ _ steps (g .indices) (g .alone)) (record { safe = g .sound-map; intact = g .intact })
+
+-- where an index loads is a header address of 32 bits
+pub start-fits : (a : ℕ) (ps : List Piece) (image m : List ℕ) → Carries image 0 ps → (map : Map) → Before (aplx a) map ps image m
+    → (i : ℕ) → i ≤ length ps → startOf (aplx a) ps i < 4294967296
+start-fits a ps image m c map b i h =
+    let t = b .intact in
+    omega (
+      arith,
+      carries-whole image (0 + 16 * i) (drop i ps) (carries-drop image i 0 ps h c),
+      lawful map (length m) (b .safe) .below Read a (length image) (t .place) (t .readable),
+    )
 
 -- what the reader grants of a plan
 record Plan (unit : ℕ) (plan : List ℕ) (ps : List Piece) : Type 0 where

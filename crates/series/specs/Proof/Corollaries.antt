@@ -18,10 +18,11 @@ use Rattle.plan.specs.Meaning.{allowed, permit, effect, effects, stretch, Meant
 use Rattle.plan.specs.Meaning.Laws.{Stores, effects-append, means-end, means-run}
 use Rattle.series.specs.Series.{Step, changed, Left, series}
 use Rattle.series.specs.Medium.{Medium, startOf, markOf, endingIn, Intact, Spares}
-use Rattle.series.specs.Demand.{Software, leaves, loads, means, Granted}
-use Rattle.series.specs.Demand.Kept.{Beside, meaning-keeps}
-use Rattle.series.specs.Demand.Preserved.{Before, after-load, after-changes}
-use Rattle.series.specs.Demand.Resume.{further, resumed}
+use Rattle.series.specs.Software.{Software, leaves}
+use Rattle.series.specs.Demand.{loads, means, Granted}
+use Rattle.series.specs.Proof.Kept.{Beside, meaning-keeps}
+use Rattle.series.specs.Proof.Preserved.{Before, after-load, after-changes}
+use Rattle.series.specs.Resume.{further, resumed}
 
 -- ---- the parts of a plan: pieces that store, then the end or a run
 data Parts : List Piece → Type 0 where

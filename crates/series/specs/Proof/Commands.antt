@@ -21,10 +21,10 @@ use Rattle.aplx.specs.Copy.Laws.{copied-apart}
 use Rattle.aplx.specs.Walk.{placeOf, commands}
 use Rattle.aplx.specs.Load.{meetsHeader, headerTest, perform, performAll}
 use Rattle.series.specs.Medium.{Misses}
-use Rattle.series.specs.Demand.Carries.{Says, says-whole, Carries}
-use Rattle.series.specs.Demand.Kept.{effects-keep}
-use Rattle.series.specs.Demand.Preserved.{misses-beside}
-use Rattle.series.specs.Demand.Entries.{ordered, indexOf, part-found, part-held, command-held}
+use Rattle.series.specs.Proof.Carries.{Says, says-whole, Carries}
+use Rattle.series.specs.Proof.Kept.{effects-keep}
+use Rattle.series.specs.Proof.Preserved.{misses-beside}
+use Rattle.series.specs.Proof.Entries.{ordered, indexOf, part-found, part-held, command-held}
 
 -- memory of n bytes that holds the image at place p
 abbrev Held : List ℕ → ℕ → ℕ → List ℕ → Type 0

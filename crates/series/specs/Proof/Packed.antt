@@ -13,7 +13,7 @@ use Rattle.plan.specs.Plan.{Piece, put, fill, run}
 use Rattle.plan.specs.Plan.Laws.{Packable}
 use Rattle.aplx_pack.specs.Image.{entry, entryOf, dataOf, entries, datas, aplxImage}
 use Rattle.aplx_pack.specs.Image.Laws.{length-entry, length-entryOf, length-entries, putBytes, length-aplxImage, tail, tail-step, image-tail, put-data}
-use Rattle.series.specs.Demand.Carries.{EntryAt, Says, Carries}
+use Rattle.series.specs.Proof.Carries.{EntryAt, Says, Carries}
 
 -- an image in which this stands from offset k on
 module _ (image : List ℕ) (k : ℕ) where

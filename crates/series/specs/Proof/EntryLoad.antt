@@ -24,10 +24,11 @@ use Rattle.aplx.specs.Load.{tested, performAll, look, loadWith}
 use Rattle.aplx.specs.Load.Laws.{sound-load}
 use Rattle.series.specs.Series.{Left}
 use Rattle.series.specs.Medium.{aplx, endingIn, Misses, InMemory}
-use Rattle.series.specs.Demand.{ours, loads, means}
-use Rattle.series.specs.Demand.Carries.{Carries, carries-drop}
-use Rattle.series.specs.Demand.Entries.{indexOf, walkedTo, walk-stretch}
-use Rattle.series.specs.Demand.Commands.{Stopped, orders, orders-inside, orders-count, header-missed, commands-held, perform-stretch}
+use Rattle.series.specs.Software.{ours}
+use Rattle.series.specs.Demand.{loads, means}
+use Rattle.series.specs.Proof.Carries.{Carries, carries-drop}
+use Rattle.series.specs.Proof.Entries.{indexOf, walkedTo, walk-stretch}
+use Rattle.series.specs.Proof.Commands.{Stopped, orders, orders-inside, orders-count, header-missed, commands-held, perform-stretch}
 
 -- what a look at these commands with this end leaves, as compared
 abbrev leaves : Lookup → ℕ → List Command → Ending → List ℕ → Left

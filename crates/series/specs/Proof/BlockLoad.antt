@@ -38,7 +38,8 @@ use Rattle.srom_pack.specs.Image.Laws as image
 use Rattle.srom_pack.specs.Image.Laws.{length-block, length-blockOf, bytesIn, length-sromImage, drop-next, at-piece, next-block, first-block}
 use Rattle.series.specs.Series.{Left}
 use Rattle.series.specs.Medium.{srom, startOf, endingIn}
-use Rattle.series.specs.Demand.{ours, loads, means}
+use Rattle.series.specs.Software.{ours}
+use Rattle.series.specs.Demand.{loads, means}
 
 -- ---- what stands at an offset where a block begins
 -- the first byte of what begins at offset o
