@@ -1,0 +1,3 @@
+-- Text that programs write.
+pub mod Decimal
+pub mod Refusal
