@@ -1,10 +1,12 @@
 -- Computed examples of APLX images (paper 01, "Bench pieces with known weight").
 use mathlib.Core.Path.{_≡_, refl}
-use mathlib.Core.List.{[], _∷_}
+use mathlib.Core.List.{List, [], _∷_}
+use Prim.Native.Nat.{ℕ}
 use lib.ListN.{length, take, drop, replicate}
-use Rattle.words.specs.Bytes.{littleEndian}
-use Rattle.plan.specs.Plan.{put, fill, run}
-use Rattle.aplx_pack.specs.Image.{entry, entryOf, entries, datas, aplxImage}
+use Rattle.words.specs.Bytes.{littleEndian, fromLittleEndian, firstBytes, littleEndianAt}
+use Rattle.plan.specs.Plan.{put, fill, run, judgeRun, judgeFill, judgeData, judgePut, judgeKind, judgeAt, pieceAt, readPieces, readPlan}
+use Rattle.plan.specs.Packed.{refuses, packs}
+use Rattle.aplx_pack.specs.Image.{entry, entryOf, entries, datas, aplxImage, packAplx}
 
 record Images : Type 0 where
   pub empty : aplxImage [] ≡ 0xff ∷ 0xff ∷ 0xff ∷ 0xff ∷ replicate 12 0
@@ -21,3 +23,17 @@ record Images : Type 0 where
 images : Images
 unfolding aplxImage entries entryOf entry datas littleEndian
 images = record { empty = refl; fill-and-run = refl; put-entry = refl; put-length = refl; put-data = refl; second-put = refl }
+
+-- a plan of one put of 32 bytes, whose data stands behind the table
+thirty-two : List ℕ
+thirty-two =
+    1 ∷ 0 ∷ 0 ∷ 0 ∷ 16 ∷ 0 ∷ 0 ∷ 0 ∷ 32 ∷ 0 ∷ 0 ∷ 0 ∷ 32 ∷ 0 ∷ 0 ∷ 0 ∷ 1 ∷ 0 ∷ 0 ∷ 0 ∷ 0 ∷ 1 ∷ 0 ∷ 0 ∷ 32 ∷ 0 ∷ 0 ∷ 0 ∷ 0 ∷ 0 ∷ 0 ∷ 0
+    ∷ replicate 32 7
+
+record Packings : Type 0 where
+  pub as-long : packAplx thirty-two 64 ≡ packs (aplxImage (put 256 (replicate 32 7) ∷ []))
+  pub too-small : packAplx thirty-two 63 ≡ refuses 10 1
+
+packings : Packings
+unfolding packAplx thirty-two readPlan readPieces pieceAt judgeAt judgeKind judgePut judgeData judgeFill judgeRun littleEndianAt fromLittleEndian firstBytes aplxImage entries entryOf entry datas littleEndian
+packings = record { as-long = refl; too-small = refl }

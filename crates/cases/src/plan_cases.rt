@@ -1,6 +1,6 @@
 // The plan reader and the SROM packer. The output is 64 bytes of 0xee.
 use crate::tell;
-use srom_pack::pack::Answer;
+use plan::packed::Answer;
 
 // The answer, and the output it leaves.
 fn case(name: &[u8], plan: &[u8]) {

@@ -1,4 +1,6 @@
 -- What the cases of the code's enums say, in the terms of the definitions.
+pub mod Packer
+pub mod Laws
 use mathlib.Core.List.{List}
 use Prim.Native.Nat.{ℕ, _+_, _≤_}
 use lib.ListN.{length, take, drop}

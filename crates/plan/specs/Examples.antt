@@ -10,8 +10,10 @@ use Rattle.words.specs.Store.{store}
 use Rattle.memory_map.specs.Region.{permits}
 use Rattle.memory_map.specs.Lookup.{Lookup, lookupIn}
 use Rattle.memory_map.specs.Entry.{legal, runEntry}
+use Rattle.plan.specs.declared.packed.Answer.the-variants as code-answer
+use Rattle.plan.specs.Code.Packer.{outcomeIs}
 use Rattle.plan.specs.Plan.{Piece, put, fill, run, judgeRun, judgeFill, judgeData, judgePut, judgeKind, judgeAt, pieceAt, refused, pieces, readPieces, readPlan}
-use Rattle.plan.specs.Packed.{refuses, packs, packedAs}
+use Rattle.plan.specs.Packed.{refuses, packs, packedAs, refusal, sized}
 use Rattle.plan.specs.Meaning.{permit, effect, effects, stretch, ends, runs, denies, finish, meaning}
 
 words : List ℕ → List ℕ
@@ -123,3 +125,11 @@ record Packings : Type 0 where
 packings : Packings
 unfolding hundred
 packings = record { fits = refl; too-small = refl; refused-first = refl }
+
+-- what a packer's answers say
+record Answers : Type 0 where
+  pub packed : outcomeIs (code-answer.Packed 29) ≡ sized 29
+  pub refused : outcomeIs (code-answer.Refused (record { number = 10; place = 3 })) ≡ refusal 10 3
+
+answers : Answers
+answers = record { packed = refl; refused = refl }

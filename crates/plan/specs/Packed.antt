@@ -1,12 +1,13 @@
 -- What packing a plan gives (paper 01, "Plans").
 pub mod Laws
-use mathlib.Core.List.{List}
+use mathlib.Core.Path.{_≡_}
+use mathlib.Core.List.{List, []}
 use Prim.Native.Nat.{ℕ}
 use lib.Dec.{ltb}
 use lib.ListN.{length}
 use Rattle.words.specs.Choice.{if_then_else_}
 use Rattle.words.specs.Store.{store}
-use Rattle.plan.specs.Plan.{Piece, Read, refused, pieces}
+use Rattle.plan.specs.Plan.{Piece, Read, refused, pieces, readPlan}
 
 pub data Packed : Type 0 where
   refuses : ℕ → ℕ → Packed  -- number, place
@@ -23,3 +24,24 @@ packedAs image (pieces ps) n =
 abbrev pub outputAfter : Packed → List ℕ → List ℕ
 outputAfter (refuses x i) out = out
 outputAfter (packs image) out = store out 0 image
+
+-- what a packer answers: a refusal, or the length of the image
+pub data Outcome : Type 0 where
+  refusal : ℕ → ℕ → Outcome  -- number, place
+  sized : ℕ → Outcome
+
+abbrev pub outcomeOf : Packed → Outcome
+outcomeOf (refuses x i) = refusal x i
+outcomeOf (packs image) = sized (length image)
+
+-- the pieces of a plan that was read
+abbrev pub piecesIn : Read → List Piece
+piecesIn (refused x i) = []
+piecesIn (pieces ps) = ps
+
+abbrev pub planPieces : ℕ → List ℕ → List Piece
+planPieces unit s = piecesIn (readPlan unit s)
+
+-- the reader accepts the plan
+abbrev pub Accepted : ℕ → List ℕ → Type 0
+Accepted unit s = readPlan unit s ≡ pieces (planPieces unit s)

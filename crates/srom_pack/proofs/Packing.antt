@@ -1,84 +1,56 @@
--- What the packer's loops rest on: the piece that the code reads is the plan's, its block fits, and the blocks written one after the other are the image.
+-- What the packer's loops rest on: the block of the piece that the code reads fits, and the blocks written one after the other are the image.
 use mathlib.Core.Path.{_≡_, refl, ap, sym, _∙_}
 use mathlib.Core.List.{List, [], _∷_, _++_, append-nil}
 use Prim.Native.Nat.{ℕ, suc, _+_, _≤_, _<_}
 use native.Mathlib.Numerals.{add-one}
 use native.Mathlib.Omega.{arith}
-use lib.ListN.{length, take, drop, getD, set, length-append, length-drop, take-append-drop}
-use lib.Seq.{length-take-le, take-suc, take-length, drop-cons}
-use borrow.Author.Tests.{lt-ltb, le-ltb}
-use Rattle.words.specs.Choice.Laws.{all-at}
-use Rattle.words.specs.Bytes.{Bytes}
+use lib.ListN.{length, take, drop, getD, set, length-append, take-append-drop}
+use lib.Seq.{take-suc, take-length, drop-cons}
 use Rattle.words.specs.Store.{store}
 use Rattle.words.specs.Store.Laws.{length-store, store-adjoining, sets-store, store-nil}
 use Rattle.plan.specs.declared.piece.Piece as code-piece
 use Rattle.plan.specs.declared.piece.Piece.the-variants.{Put, Fill, Run}
-use Rattle.plan.specs.declared.piece.Judged as code-judged
-use Rattle.plan.specs.declared.piece.Judged.the-variants as judged
-use Rattle.plan.specs.Plan.{Piece, run, dataAt, dataLength, good, bad, pieceAt, Read, refused, pieces, readPlan}
-use Rattle.plan.specs.Plan.Laws.{Packable, packable, read-header, read-count, read-piece}
-use Rattle.plan.specs.Code as reader
-use Rattle.plan.specs.Code.{pieceIs, judgedIs, WithinData, reads, outcomeOf}
-use Rattle.plan.specs.Packed.{refuses, packs, packedAs}
-use Rattle.srom_pack.specs.Image.{blockOf, blocks, sromImage, blockAt, packSrom}
+use Rattle.plan.specs.Plan.{Piece, run}
+use Rattle.plan.specs.Packed.{planPieces}
+use Rattle.plan.specs.Code.{pieceIs}
+use Rattle.plan.specs.Code.Packer.{Writable}
+use Rattle.plan.specs.Code.Laws.{data-length, Found}
+use Rattle.srom_pack.specs.Image.{blockOf, blocks, sromImage, blockAt}
 use Rattle.srom_pack.specs.Image.Laws.{bytesOf, blocks-append, next-block, end-place}
-use Rattle.srom_pack.specs.Code.{bytesIs, Writable, planPieces, Accepted}
-
--- ---- a piece of the code that is a piece of the plan
-record Sound (s : List ℕ) (p : code-piece.Piece) : Type 0 where
-  writable : Writable s p
-  most : bytesIs p ≤ 65536
-  same-bytes : bytesIs p ≡ bytesOf (pieceIs s p)
-
-sound : (s : List ℕ) (p : code-piece.Piece) → WithinData s (judged.Good p) → dataAt s + dataLength s ≤ length s → Packable 4 (pieceIs s p) → Sound s p
-sound s (Put a o n) w h k =
-    let e : length (take n (drop o s)) ≡ n = length-take-le n (drop o s) (rw length-drop (omega arith)) in
-    record {
-      writable = (omega arith, rw e at (k .whole), rw e at (k .most));
-      most = rw e at (k .most);
-      same-bytes = sym e;
-    }
-sound s (Fill a n w) x h k = record { writable = (k .0 .whole, k .0 .most); most = k .0 .most; same-bytes = refl }
-sound s (Run a) w h k = record { writable = tt; most = omega arith; same-bytes = refl }
+use Rattle.srom_pack.specs.Code.{bytesIs}
 
 -- ---- the next block
+most-bytes : (s : List ℕ) (p : code-piece.Piece) → Writable 4 s p → bytesIs p ≤ 65536
+most-bytes s (Put a o n) w = w .2
+most-bytes s (Fill a n w) x = x .1
+most-bytes s (Run a) w = omega arith
+
+same-bytes : (s : List ℕ) (p : code-piece.Piece) → Writable 4 s p → bytesIs p ≡ bytesOf (pieceIs s p)
+same-bytes s (Put a o n) w = sym (data-length s o n (w .0))
+same-bytes s (Fill a n w) x = refl
+same-bytes s (Run a) w = refl
+
 blocks-more : (ps : List Piece) (p : Piece) → blocks (ps ++ p ∷ []) ≡ blocks ps ++ blockOf p
 unfolding blocks
 blocks-more ps p = rw (blocks-append, append-nil)
 
 -- what writing the piece with index i needs and brings
 pub record Next (s : List ℕ) (i : ℕ) (p : code-piece.Piece) : Type 0 where
-  pub writable : Writable s p
+  pub writable : Writable 4 s p
   pub most : bytesIs p ≤ 65536
-  pub place : blockAt (planPieces s) (i + 1) ≡ blockAt (planPieces s) i + (7 + bytesIs p)
-  pub block : blocks (take (i + 1) (planPieces s)) ≡ blocks (take i (planPieces s)) ++ blockOf (pieceIs s p)
+  pub place : blockAt (planPieces 4 s) (i + 1) ≡ blockAt (planPieces 4 s) i + (7 + bytesIs p)
+  pub block : blocks (take (i + 1) (planPieces 4 s)) ≡ blocks (take i (planPieces 4 s)) ++ blockOf (pieceIs s p)
 
--- what the code reads at index i of an accepted plan
-module _ (s : List ℕ) (accepted : Accepted s) (i : ℕ) (h : i < length (planPieces s)) (r : code-judged.Judged) (e : judgedIs s r ≡ pieceAt 4 s i) where
-  abbrev piece : Piece
-  piece = getD (planPieces s) i (run 0)
-
-  is-good : judgedIs s r ≡ good piece
-  is-good = e ∙ read-piece 4 s accepted i h (run 0)
-
-  pub not-bad : {n : ℕ} {A : Type 0} → r ≡ judged.Bad n → A
-  not-bad {n} f =
-      let g : bad n ≡ good piece = rw f at is-good in
-      let z : _≡_ {A = ℕ} 0 1 = cc in absurd (omega arith)
-
-  pub next : {p : code-piece.Piece} → Bytes s → WithinData s r → r ≡ judged.Good p → Next s i p
-  next {p} b w f =
-      let g : good (pieceIs s p) ≡ good piece = rw f at is-good in
-      let q : piece ≡ pieceIs s p = cc in
-      let k : Packable 4 (pieceIs s p) = rw q at (all-at (Packable 4) (run 0) (planPieces s) i h (packable 4 s b accepted)) in
-      let x = sound s p (rw f at w) (read-header 4 s accepted .data-inside) k in
-      record {
-        writable = x .writable;
-        most = x .most;
-        place =
-            rw (add-one i, x .same-bytes, ← q) (next-block (planPieces s) i piece (drop (suc i) (planPieces s)) (drop-cons (planPieces s) i (run 0) h));
-        block = rw (add-one i, take-suc (planPieces s) i (run 0) h, ← q) (blocks-more (take i (planPieces s)) piece);
-      }
+pub next : (s : List ℕ) (i : ℕ) {p : code-piece.Piece} → i < length (planPieces 4 s) → Found 4 s i p → Next s i p
+next s i {p} h f =
+    let ps = planPieces 4 s in
+    let piece = getD ps i (run 0) in
+    record {
+      writable = f .can-write;
+      most = most-bytes s p (f .can-write);
+      place = rw (add-one i, same-bytes s p (f .can-write), ← f .same) (next-block ps i piece (drop (suc i) ps) (drop-cons ps i (run 0) h));
+      block = rw (add-one i, take-suc ps i (run 0) h, ← f .same) (blocks-more (take i ps) piece);
+    }
 
 -- ---- the image
 module _ (ps : List Piece) where
@@ -124,37 +96,3 @@ module _ (ps : List Piece) where
       let z : 1 + length n ≡ 0 + length (0x55 ∷ n) = omega arith in
       let x : set out (1 + length n) 0xff ≡ store out (1 + length n) (0xff ∷ []) = sets-store out (1 + length n) (0xff ∷ []) (omega arith) in
       rw (end-place ps, x, g, z) (store-adjoining m 0 (0x55 ∷ n) (omega arith) (0xff ∷ []))
-
--- ---- the plan as it was read
-module _ (s : List ℕ) where
-  -- an accepted plan of n pieces
-  pub record Counted (n : ℕ) : Type 0 where
-    pub accepted : Accepted s
-    pub count : n ≡ length (planPieces s)
-    pub few : n ≤ 64
-
-  pub counted : {n : ℕ} → outcomeOf (readPlan 4 s) ≡ reads n → Counted n
-  counted {n} = go (readPlan 4 s) refl
-    where
-      go : (r : Read) → readPlan 4 s ≡ r → outcomeOf r ≡ reads n → Counted n
-      go (refused x i) e f = let z : _≡_ {A = ℕ} 0 1 = cc in absurd (omega arith)
-      go (pieces ps) e f =
-          let c : length ps ≡ n = cc in
-          record { accepted = rw e; count = rw e (sym c); few = omega (arith, read-count 4 s e, read-header 4 s e .few) }
-
-  pub pack-refused : (n : ℕ) {x i : ℕ} → outcomeOf (readPlan 4 s) ≡ reader.refuses x i → packSrom s n ≡ refuses x i
-  unfolding packSrom
-  pack-refused n {x} {i} = go (readPlan 4 s)
-    where
-      go : (r : Read) → outcomeOf r ≡ reader.refuses x i → packedAs sromImage r n ≡ refuses x i
-      go (refused y j) f = cc
-      go (pieces ps) f = let z : _≡_ {A = ℕ} 0 1 = cc in absurd (omega arith)
-
-  module _ (n : ℕ) (accepted : Accepted s) where
-    pub pack-small : n < length (sromImage (planPieces s)) → packSrom s n ≡ refuses 10 (length (planPieces s))
-    unfolding packSrom
-    pack-small h = ap (λ (r : Read). packedAs sromImage r n) accepted ∙ simp (lt-ltb n (length (sromImage (planPieces s))) h)
-
-    pub pack-whole : length (sromImage (planPieces s)) ≤ n → packSrom s n ≡ packs (sromImage (planPieces s))
-    unfolding packSrom
-    pack-whole h = ap (λ (r : Read). packedAs sromImage r n) accepted ∙ simp (le-ltb n (length (sromImage (planPieces s))) h)

@@ -8,8 +8,9 @@ ghost use Rattle.words.specs.Repeat.{repeated, filling};
 ghost use Rattle.words.specs.Store.{store};
 ghost use Rattle.words.specs.Swap.{swapWords};
 ghost use Rattle.plan.specs.Code.{pieceIs};
+ghost use Rattle.plan.specs.Code.Packer.{Writable};
 ghost use Rattle.srom_pack.specs.Image.{block, blockOf};
-ghost use Rattle.srom_pack.specs.Code.{bytesIs, Writable};
+ghost use Rattle.srom_pack.specs.Code.{bytesIs};
 use plan::piece::Piece;
 
 // The start byte, the length in words and the address.
@@ -75,7 +76,7 @@ pub(crate) fn size_of(piece: Piece) -> usize
 
 // The block of a piece of the plan.
 pub(crate) fn write_block(plan: &[u8], piece: Piece, output: &mut [u8], at: usize)
-    requires { ⌜ Writable (now plan) piece × (at + (7 + bytesIs piece) ≤ length (now output)) ⌝ }
+    requires { ⌜ Writable 4 (now plan) piece × (at + (7 + bytesIs piece) ≤ length (now output)) ⌝ }
     ensures { λ _. ⌜ now (output .exit) ≡ store (now (output .entry)) at (blockOf (pieceIs (now (plan .entry)) piece)) ⌝ }
 {
     match piece {

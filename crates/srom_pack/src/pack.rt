@@ -3,24 +3,19 @@ ghost use mathlib.Core.Path.{_≡_};
 ghost use Prim.Native.Nat.{_≤_};
 ghost use lib.ListN.{length};
 ghost use Rattle.words.specs.Store.{store};
-ghost use Rattle.plan.specs.Packed.{outputAfter};
+ghost use Rattle.plan.specs.Packed.{outputAfter, outcomeOf, planPieces, Accepted};
+ghost use Rattle.plan.specs.Code.Packer.{outcomeIs};
 ghost use Rattle.srom_pack.specs.Image.{sromImage, packSrom};
-ghost use Rattle.srom_pack.specs.Code.{planPieces, Accepted, outcomeOf, outcomeIs};
 use memory_map::answer::OUTPUT_TOO_SMALL;
 use memory_map::answer::Refusal;
+use plan::packed::Answer;
 use plan::piece::Judged;
 use plan::piece::Target;
 
-// The length of the image, or the refusal.
-pub enum Answer {
-    Packed { size: usize },
-    Refused(Refusal),
-}
-
 // The length of the image of a plan with so many pieces.
 fn image_size(plan: &[u8], count: u32) -> usize
-    requires { ⌜ Accepted (now plan) × (count ≡ length (planPieces (now plan))) × (count ≤ 64) ⌝ }
-    ensures { λ r. ⌜ r ≡ length (sromImage (planPieces (now (plan .entry)))) ⌝ }
+    requires { ⌜ Accepted 4 (now plan) × (count ≡ length (planPieces 4 (now plan))) × (count ≤ 64) ⌝ }
+    ensures { λ r. ⌜ r ≡ length (sromImage (planPieces 4 (now (plan .entry)))) ⌝ }
 {
     let mut size: usize = 2;
     let mut i: u32 = 0;
@@ -40,8 +35,8 @@ fn image_size(plan: &[u8], count: u32) -> usize
 
 // The image of a plan with so many pieces, at the output's front.
 fn write_image(plan: &[u8], count: u32, output: &mut [u8])
-    requires { ⌜ Accepted (now plan) × (count ≡ length (planPieces (now plan))) × (count ≤ 64) × (length (sromImage (planPieces (now plan))) ≤ length (now output)) ⌝ }
-    ensures { λ _. ⌜ now (output .exit) ≡ store (now (output .entry)) 0 (sromImage (planPieces (now (plan .entry)))) ⌝ }
+    requires { ⌜ Accepted 4 (now plan) × (count ≡ length (planPieces 4 (now plan))) × (count ≤ 64) × (length (sromImage (planPieces 4 (now plan))) ≤ length (now output)) ⌝ }
+    ensures { λ _. ⌜ now (output .exit) ≡ store (now (output .entry)) 0 (sromImage (planPieces 4 (now (plan .entry)))) ⌝ }
 {
     output[0] = 0x55;
     let mut at: usize = 1;

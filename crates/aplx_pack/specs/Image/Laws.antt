@@ -1,10 +1,11 @@
 -- Laws of the APLX image: its length, and what stands at a piece's entry and where its data lies.
-use mathlib.Core.Path.{_≡_, refl, sym}
-use mathlib.Core.List.{List, [], _∷_, _++_, append-assoc, append-nil}
+use mathlib.Core.Path.{_≡_, refl, ap, sym, _∙_}
+use mathlib.Core.List.{List, [], _∷_, _++_, append-assoc}
 use Prim.Native.Nat.{ℕ, zero, suc, _+_, _*_, _≤_}
+use native.Mathlib.Nat.{add-zero, add-assoc}
 use native.Mathlib.Omega.{arith}
-use lib.ListN.{length, take, drop, length-append}
-use lib.Seq.{take-at, drop-at, drop-drop}
+use lib.ListN.{length, take, drop, length-append, take-append-drop}
+use lib.Seq.{take-at, drop-at, drop-drop, drop-append-le}
 use Rattle.words.specs.Bytes.Laws.{length-littleEndian}
 use Rattle.plan.specs.Plan.{Piece, put, fill, run}
 use Rattle.aplx_pack.specs.Image.{entry, entryOf, dataOf, entries, datas, aplxImage}
@@ -64,13 +65,27 @@ put-data d a b ps =
     let e : tail d (put a b ∷ ps) ≡ f ++ (b ++ datas ps) = sym (append-assoc (entries (length d) (put a b ∷ ps)) d (b ++ datas ps)) in
     rw (e, drop-at f (b ++ datas ps) _ l) (take-at b (datas ps) (length b) refl)
 
--- what stands at the entry of piece i: the entries of the pieces from i on, then all the data. At the count it is the end entry
-pub at-entry : (ps : List Piece) (i : ℕ) (d : List ℕ) → i ≤ length ps → drop (16 * i) (tail d ps) ≡ tail (d ++ datas (take i ps)) (drop i ps)
+-- from the entry of piece i on; at the count it is the end entry
+pub drop-entries : (ps : List Piece) (i k : ℕ) → i ≤ length ps → drop (16 * i) (entries k ps) ≡ entries (k + length (datas (take i ps))) (drop i ps)
+unfolding entries datas
+drop-entries ps zero k h = rw (add-zero k)
+drop-entries [] (suc i) k h = absurd (omega arith)
+drop-entries (p ∷ ps) (suc i) k h =
+    let off = 16 * suc (suc (length ps)) + k in
+    let z : 16 * suc i ≡ 16 + 16 * i = omega arith in
+    let s : drop 16 (entries k (p ∷ ps)) ≡ entries (k + length (dataOf p)) ps = drop-at (entryOf p off) (entries (k + length (dataOf p)) ps) 16 (length-entryOf p off) in
+    rw (z, ← drop-drop (16 * i) 16 (entries k (p ∷ ps)), s, drop-entries ps i (k + length (dataOf p)) (omega arith), length-append, add-assoc)
+
+pub datas-append : (ps qs : List Piece) → datas (ps ++ qs) ≡ datas ps ++ datas qs
 unfolding datas
-at-entry ps zero d h = rw (append-nil d)
-at-entry [] (suc i) d h = absurd (omega arith)
-at-entry (p ∷ ps) (suc i) d h =
-    let off = 16 * suc (suc (length ps)) + length d in
-    let k : 16 * suc i ≡ 16 + 16 * i = omega arith in
-    let s : drop 16 (tail d (p ∷ ps)) ≡ tail (d ++ dataOf p) ps = rw (tail-step d p ps) (drop-at (entryOf p off) (tail (d ++ dataOf p) ps) 16 (length-entryOf p off)) in
-    rw (k, ← drop-drop (16 * i) 16 (tail d (p ∷ ps)), s, at-entry ps i (d ++ dataOf p) (omega arith), append-assoc)
+datas-append [] qs = refl
+datas-append (p ∷ ps) qs = rw (datas-append ps qs, append-assoc)
+
+pub datas-split : (ps : List Piece) (i : ℕ) → datas ps ≡ datas (take i ps) ++ datas (drop i ps)
+datas-split ps i = ap datas (sym (take-append-drop i ps)) ∙ datas-append (take i ps) (drop i ps)
+
+-- what stands at the entry of piece i: the entries of the pieces from i on, then all the data
+pub at-entry : (ps : List Piece) (i : ℕ) (d : List ℕ) → i ≤ length ps → drop (16 * i) (tail d ps) ≡ tail (d ++ datas (take i ps)) (drop i ps)
+at-entry ps i d h =
+    let f : 16 * i ≤ length (entries (length d) ps) = omega (arith, length-entries (length d) ps) in
+    rw (drop-append-le (16 * i) (entries (length d) ps) (d ++ datas ps) f, drop-entries ps i (length d) h, datas-split ps i, length-append, append-assoc)

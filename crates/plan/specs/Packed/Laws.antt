@@ -11,17 +11,17 @@ use Rattle.words.specs.Choice.{if_then_else_}
 use Rattle.plan.specs.Plan.{Piece, Read, refused, pieces}
 use Rattle.plan.specs.Packed.{refuses, packs, packedAs}
 
-pub record Accepted (image : List Piece → List ℕ) (r : Read) (n : ℕ) (bytes : List ℕ) : Type 0 where
+pub record Fitting (image : List Piece → List ℕ) (r : Read) (n : ℕ) (bytes : List ℕ) : Type 0 where
   pub read : List Piece
   pub are-read : r ≡ pieces read
   pub is-image : bytes ≡ image read
   pub fits : length bytes ≤ n
 
-pub accepted-facts : (image : List Piece → List ℕ) (r : Read) (n : ℕ) {bytes : List ℕ} → packedAs image r n ≡ packs bytes → Accepted image r n bytes
+pub accepted-facts : (image : List Piece → List ℕ) (r : Read) (n : ℕ) {bytes : List ℕ} → packedAs image r n ≡ packs bytes → Fitting image r n bytes
 accepted-facts image (refused x i) n e = let z : _≡_ {A = ℕ} 0 1 = cc in absurd (omega arith)
 accepted-facts image (pieces ps) n {bytes} e = go (ltb n (length (image ps))) refl e
   where
-    go : (b : Bool) → ltb n (length (image ps)) ≡ b → (if b then refuses 10 (length ps) else packs (image ps)) ≡ packs bytes → Accepted image (pieces ps) n bytes
+    go : (b : Bool) → ltb n (length (image ps)) ≡ b → (if b then refuses 10 (length ps) else packs (image ps)) ≡ packs bytes → Fitting image (pieces ps) n bytes
     go true t e = let z : _≡_ {A = ℕ} 0 1 = cc in absurd (omega arith)
     go false t e =
         let z : image ps ≡ bytes = cc in

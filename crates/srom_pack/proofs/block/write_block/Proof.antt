@@ -3,12 +3,12 @@ use mathlib.Core.Path.{_≡_, _∙_}
 use mathlib.Core.List.{append-nil}
 use Prim.Native.Nat.{_+_, _-_, _≤_}
 use native.Mathlib.Omega.{arith}
-use lib.ListN.{length, take, drop, length-drop}
-use lib.Seq.{length-take-le}
+use lib.ListN.{length}
 use Rattle.words.specs.Swap.{swapWords}
 use Rattle.plan.specs.declared.piece.Piece.the-variants.{Put, Fill}
+use Rattle.plan.specs.Code.Packer.{Writable}
+use Rattle.plan.specs.Code.Laws.{data-length}
 use Rattle.srom_pack.specs.Image.{block, blockOf}
-use Rattle.srom_pack.specs.Code.{Writable}
 use borrow.Author.Needs.{needs}
 use Rattle.srom_pack.proofs.block.write_block.Statement.{statement}
 use Rattle.srom_pack.proofs.block.write_block.Tie as tie
@@ -16,12 +16,12 @@ use Rattle.srom_pack.proofs.block.write_block.Tie as tie
 -- what is required, of a put and of a fill
 put-fits : (c : tie.After-known-told) → let x = c .before .before .before .before .before .args in
     let g = c .before .piece .given .0 in
-    Writable (x .plan .now) (Put (g .0) (g .1 .0) (g .1 .1 .0)) × (x .at + (7 + g .1 .1 .0) ≤ length (x .output .now))
+    Writable 4 (x .plan .now) (Put (g .0) (g .1 .0) (g .1 .1 .0)) × (x .at + (7 + g .1 .1 .0) ≤ length (x .output .now))
 put-fits c = rw (c .before .piece .given .1) at (c .before .before .before .before .before .pre)
 
 fill-fits : (c : tie.After-known-told2) → let x = c .before .before .before .before .before .args in
     let g = c .before .piece2 .given .0 in
-    Writable (x .plan .now) (Fill (g .0) (g .1 .0) (g .1 .1 .0)) × (x .at + (7 + g .1 .0) ≤ length (x .output .now))
+    Writable 4 (x .plan .now) (Fill (g .0) (g .1 .0) (g .1 .1 .0)) × (x .at + (7 + g .1 .0) ≤ length (x .output .now))
 fill-fits c = rw (c .before .piece2 .given .1) at (c .before .before .before .before .before .pre)
 
 enum-known-piece : tie.Need-enum-known-piece
@@ -46,8 +46,7 @@ data-block-requires c κs =
     let s = d .before .before .before .before .before .args .plan .now in
     let h = put-fits d in
     let e : g .1 .0 + g .1 .1 .0 - g .1 .0 ≡ g .1 .1 .0 = omega arith in
-    let l : length (take (g .1 .1 .0) (drop (g .1 .0) s)) ≡ g .1 .1 .0 = length-take-le (g .1 .1 .0) (drop (g .1 .0) s) (omega (arith, length-drop (g .1 .0) s)) in
-    rw (e, l) (h .1, h .0 .1, h .0 .2)
+    rw (e, data-length s (g .1 .0) (g .1 .1 .0) (h .0 .0)) (h .1, h .0 .1, h .0 .2)
 
 enum-known-piece-2 : tie.Need-enum-known-piece-2
 enum-known-piece-2 c = search needs

@@ -5,21 +5,22 @@ use native.Mathlib.Omega.{arith}
 use borrow.Author.Needs.{needs}
 use Rattle.words.specs.Choice.Laws.{all-elements}
 use Rattle.words.specs.Bytes.{Bytes}
+use Rattle.plan.specs.Packed.{planPieces}
+use Rattle.plan.specs.Code.Laws.{not-bad, found}
 use Rattle.srom_pack.specs.Image.{blockAt}
 use Rattle.srom_pack.specs.Image.Laws.{first-block}
-use Rattle.srom_pack.specs.Code.{planPieces}
-use Rattle.srom_pack.proofs.Packing.{Next, next, not-bad, image-end}
+use Rattle.srom_pack.proofs.Packing.{Next, next, image-end}
 use Rattle.srom_pack.proofs.pack.image_size.Statement.{statement}
 use Rattle.srom_pack.proofs.pack.image_size.Tie as tie
 
 abbrev Inv-loop : tie.InvT-loop
-Inv-loop plan count size₀ i₀ size i = (size ≡ 1 + blockAt (planPieces plan) i) × ((size ≤ 2 + 65543 * i) × (i ≤ count))
+Inv-loop plan count size₀ i₀ size i = (size ≡ 1 + blockAt (planPieces 4 plan) i) × ((size ≤ 2 + 65543 * i) × (i ≤ count))
 
 abbrev μ-loop : tie.MeasureT-loop
 μ-loop plan count size₀ i₀ size i = count - i
 
 loop-holds : tie.Need-loop-holds Inv-loop μ-loop
-loop-holds c = (rw (first-block (planPieces (c .before .args .plan .now))), (omega arith, omega arith))
+loop-holds c = (rw (first-block (planPieces 4 (c .before .args .plan .now))), (omega arith, omega arith))
 
 piece-at-requires : tie.Need-piece-at-requires Inv-loop μ-loop
 piece-at-requires c κs = search needs
@@ -39,7 +40,7 @@ next-piece c =
     let p = k .before .before .pre in
     let s = k .before .before .args .plan .now in
     let bytes : Bytes s = all-elements _ 0 s (λ i. omega (arith, k .before .shared-slice-known .given i)) in
-    next s (p .0) (k .loop .i) (omega arith) (r .result) (r .ensures .0) bytes (r .ensures .1) (c .before .piece .given .1)
+    next s (k .loop .i) (omega arith) (found 4 s (p .0) (k .loop .i) (omega arith) (r .result) (r .ensures .0) bytes (r .ensures .1) (c .before .piece .given .1))
 
 add-size : tie.Need-add-size Inv-loop μ-loop
 add-size c = let n = next-piece (c .before) in let e = c .size-of .ensures (n .most) in omega arith
@@ -64,7 +65,7 @@ returns c =
     let k = c .before .before .before .before in
     let x = k .before .before .args in
     let p = k .before .before .pre in
-    not-bad (x .plan .now) (p .0) (k .loop .i) (omega arith) (c .before .before .piece-at .result) (c .before .before .piece-at .ensures .0) (c .enum-told .given .1)
+    not-bad 4 (x .plan .now) (p .0) (k .loop .i) (omega arith) (c .before .before .piece-at .result) (c .before .before .piece-at .ensures .0) (c .enum-told .given .1)
 
 returns-2 : tie.Need-returns-2 Inv-loop μ-loop
 returns-2 c =
@@ -72,7 +73,7 @@ returns-2 c =
     let x = k .before .before .args in
     let p = k .before .before .pre in
     let e : k .loop .i ≡ x .count = omega arith in
-    k .loop .inv .0 ∙ rw (e, p .1) (sym (image-end (planPieces (x .plan .now))))
+    k .loop .inv .0 ∙ rw (e, p .1) (sym (image-end (planPieces 4 (x .plan .now))))
 
 pub image-size-spec : {M : Type 1} → statement M
 image-size-spec =

@@ -6,28 +6,29 @@ use borrow.Author.Needs.{needs}
 use lib.ListN.{length, set, length-set}
 use Rattle.words.specs.Choice.Laws.{all-elements}
 use Rattle.words.specs.Bytes.{Bytes}
+use Rattle.plan.specs.Packed.{planPieces}
 use Rattle.plan.specs.Code.{pieceIs}
+use Rattle.plan.specs.Code.Laws.{not-bad, found}
 use Rattle.srom_pack.specs.Image.{blockOf, blockAt, sromImage}
 use Rattle.srom_pack.specs.Image.Laws.{first-block}
-use Rattle.srom_pack.specs.Code.{planPieces}
-use Rattle.srom_pack.proofs.Packing.{Next, next, not-bad, block-inside, Written, written-none, length-written, written-more, written-all}
+use Rattle.srom_pack.proofs.Packing.{Next, next, block-inside, Written, written-none, length-written, written-more, written-all}
 use Rattle.srom_pack.proofs.pack.write_image.Statement.{statement}
 use Rattle.srom_pack.proofs.pack.write_image.Tie as tie
 
 abbrev Inv-loop : tie.InvT-loop
 Inv-loop plan count output₀ at₀ i₀ output at i =
-    Written (planPieces plan) output₀ output i × ((at ≡ blockAt (planPieces plan) i) × ((length output ≡ length output₀) × (i ≤ count)))
+    Written (planPieces 4 plan) output₀ output i × ((at ≡ blockAt (planPieces 4 plan) i) × ((length output ≡ length output₀) × (i ≤ count)))
 
 abbrev μ-loop : tie.MeasureT-loop
 μ-loop plan count output₀ at₀ i₀ output at i = count - i
 
 slice-write-output : tie.Need-slice-write-output Inv-loop μ-loop
-slice-write-output c = omega (arith, block-inside (planPieces (c .before .before .args .plan .now)) 0)
+slice-write-output c = omega (arith, block-inside (planPieces 4 (c .before .before .args .plan .now)) 0)
 
 loop-holds : tie.Need-loop-holds Inv-loop μ-loop
 loop-holds c =
     let x = c .before .before .args in
-    let ps = planPieces (x .plan .now) in
+    let ps = planPieces 4 (x .plan .now) in
     (written-none ps (set (x .output .now) 0 0x55), (sym (first-block ps), (refl, omega arith)))
 
 piece-at-requires : tie.Need-piece-at-requires Inv-loop μ-loop
@@ -45,14 +46,14 @@ next-piece c =
     let p = k .before .before .before .pre in
     let s = k .before .before .before .args .plan .now in
     let bytes : Bytes s = all-elements _ 0 s (λ i. omega (arith, k .before .before .shared-slice-known .given i)) in
-    next s (p .0) (k .loop .i) (omega arith) (r .result) (r .ensures .0) bytes (r .ensures .1) (c .before .piece .given .1)
+    next s (k .loop .i) (omega arith) (found 4 s (p .0) (k .loop .i) (omega arith) (r .result) (r .ensures .0) bytes (r .ensures .1) (c .before .piece .given .1))
 
 write-block-requires : tie.Need-write-block-requires Inv-loop μ-loop
 write-block-requires c κs =
     let k = c .before .before .before .before .before .before in
     let n = next-piece (c .before) in
     let x = k .before .before .before .args in
-    (n .writable, omega (arith, n .place, block-inside (planPieces (x .plan .now)) (k .loop .i + 1), length-set (x .output .now) 0 0x55))
+    (n .writable, omega (arith, n .place, block-inside (planPieces 4 (x .plan .now)) (k .loop .i + 1), length-set (x .output .now) 0 0x55))
 
 size-of-requires : tie.Need-size-of-requires Inv-loop μ-loop
 size-of-requires c κs = search needs
@@ -63,7 +64,7 @@ add-at c =
     let n = next-piece (c .before .before .before .before .before) in
     let e = c .size-of .ensures (n .most) in
     let x = k .before .before .before .args in
-    omega (arith, n .place, block-inside (planPieces (x .plan .now)) (k .loop .i + 1), length-set (x .output .now) 0 0x55)
+    omega (arith, n .place, block-inside (planPieces 4 (x .plan .now)) (k .loop .i + 1), length-set (x .output .now) 0 0x55)
 
 add-i : tie.Need-add-i Inv-loop μ-loop
 add-i c = omega arith
@@ -77,7 +78,7 @@ loop-again c =
     let n = next-piece (c .before .before .before .before .before) in
     let e = c .size-of .ensures (n .most) in
     let x = k .before .before .before .args in
-    let ps = planPieces (x .plan .now) in
+    let ps = planPieces 4 (x .plan .now) in
     let w = c .before .before .before .write-block in
     let m = set (x .output .now) 0 0x55 in
     let fits : length (sromImage ps) ≤ length m = omega (arith, length-set (x .output .now) 0 0x55) in
@@ -97,12 +98,12 @@ returns c =
     let k = c .before .before .before .before in
     let r = c .before .before .piece-at in
     let p = k .before .before .before .pre in
-    not-bad (k .before .before .before .args .plan .now) (p .0) (k .loop .i) (omega arith) (r .result) (r .ensures .0) (c .enum-told .given .1)
+    not-bad 4 (k .before .before .before .args .plan .now) (p .0) (k .loop .i) (omega arith) (r .result) (r .ensures .0) (c .enum-told .given .1)
 
 slice-write-output-2 : tie.Need-slice-write-output-2 Inv-loop μ-loop
 slice-write-output-2 c =
     let x = c .before .before .before .before .args in
-    omega (arith, block-inside (planPieces (x .plan .now)) (c .before .loop .i), length-set (x .output .now) 0 0x55)
+    omega (arith, block-inside (planPieces 4 (x .plan .now)) (c .before .loop .i), length-set (x .output .now) 0 0x55)
 
 same-length-2 : tie.Need-same-length-2 Inv-loop μ-loop
 same-length-2 c =
@@ -114,7 +115,7 @@ returns-2 c =
     let k = c .before in
     let x = k .before .before .before .args in
     let p = k .before .before .before .pre in
-    let ps = planPieces (x .plan .now) in
+    let ps = planPieces 4 (x .plan .now) in
     let e : k .loop .i ≡ length ps = omega arith in
     rw (k .loop .inv .1 .0, e) (written-all ps (x .output .now) (k .loop .output) (p .3) (rw e at (k .loop .inv .0)))
 

@@ -1,0 +1,129 @@
+-- `aplx_pack::entry::write_piece` meets its contract: each arm writes the entry of its kind of piece, and a put its data.
+use mathlib.Core.Path.{_≡_, _∙_}
+use Prim.Native.Nat.{_+_, _-_, _≤_}
+use native.Mathlib.Omega.{arith}
+use lib.ListN.{length, take, drop}
+use Rattle.words.specs.Store.Laws.{store-nil}
+use Rattle.plan.specs.declared.piece.Piece.the-variants.{Put, Fill}
+use Rattle.plan.specs.Code.Packer.{Writable}
+use Rattle.plan.specs.Code.Laws.{data-length}
+use Rattle.aplx_pack.specs.Image.{entryOf}
+use Rattle.aplx_pack.proofs.Writing.{piece-put}
+use borrow.Author.Needs.{needs}
+use Rattle.aplx_pack.proofs.entry.write_piece.Statement.{statement}
+use Rattle.aplx_pack.proofs.entry.write_piece.Tie as tie
+
+-- what is required, of a put and of a fill
+put-fits : (c : tie.After-known-told) → let x = c .before .before .before .before .before .args in
+    let g = c .before .piece .given .0 in
+    Writable 32 (x .plan .now) (Put (g .0) (g .1 .0) (g .1 .1 .0)) × (x .place + g .1 .1 .0 ≤ length (x .output .now))
+put-fits c =
+    let h = rw (c .before .piece .given .1) at (c .before .before .before .before .before .pre) in
+    (h .0, h .3)
+
+fill-fits : (c : tie.After-known-told2) → let x = c .before .before .before .before .before .args in
+    let g = c .before .piece2 .given .0 in
+    Writable 32 (x .plan .now) (Fill (g .0) (g .1 .0) (g .1 .1 .0))
+fill-fits c = rw (c .before .piece2 .given .1) at (c .before .before .before .before .before .pre .0)
+
+enum-known-piece : tie.Need-enum-known-piece
+enum-known-piece c = search needs
+
+add-end : tie.Need-add-end
+add-end c = omega (arith, put-fits c)
+
+sub-put-entry : tie.Need-sub-put-entry
+sub-put-entry c = search needs
+
+cast-put-entry : tie.Need-cast-put-entry
+cast-put-entry c = search needs
+
+cast-put-entry-2 : tie.Need-cast-put-entry-2
+cast-put-entry-2 c = omega (arith, put-fits (c .before))
+
+put-entry-requires : tie.Need-put-entry-requires
+put-entry-requires c κs = search needs
+
+sub-bytes : tie.Need-sub-bytes
+sub-bytes c = search needs
+
+part-bytes-start : tie.Need-part-bytes-start
+part-bytes-start c = search needs
+
+part-bytes-end : tie.Need-part-bytes-end
+part-bytes-end c = put-fits (c .before .before .before .before .before) .0 .0
+
+bytes-requires : tie.Need-bytes-requires
+bytes-requires c κs = search needs
+
+enum-known-piece-2 : tie.Need-enum-known-piece-2
+enum-known-piece-2 c = search needs
+
+cast-put-entry-3 : tie.Need-cast-put-entry-3
+cast-put-entry-3 c = omega (arith, fill-fits (c .before))
+
+put-entry-requires-2 : tie.Need-put-entry-requires-2
+put-entry-requires-2 c κs = search needs
+
+enum-known-piece-3 : tie.Need-enum-known-piece-3
+enum-known-piece-3 c = search needs
+
+put-entry-requires-3 : tie.Need-put-entry-requires-3
+put-entry-requires-3 c κs = search needs
+
+same-length : tie.Need-same-length
+same-length c = search needs
+
+returns : tie.Need-returns
+returns c =
+    let d = c .before .before .before .before .before .before .before .before .before in
+    let g = d .before .piece .given .0 in
+    let start = d .before .before .before .before .before in
+    let x = start .args in
+    let h = put-fits d in
+    let e : g .1 .0 + g .1 .1 .0 - g .1 .0 ≡ g .1 .1 .0 = omega arith in
+    let bytes = take (g .1 .1 .0) (drop (g .1 .0) (x .plan .now)) in
+    let l : length bytes ≡ g .1 .1 .0 = data-length (x .plan .now) (g .1 .0) (g .1 .1 .0) (h .0 .0) in
+    rw (d .before .piece .given .1)
+    (piece-put (x .output .now) _ _ (x .at) (x .place) (g .0) bytes (omega arith) (omega arith)
+    (rw l (c .before .before .before .before .before .before .before .put-entry .ensures)) (rw e at (c .before .before .bytes .ensures)))
+
+same-length-2 : tie.Need-same-length-2
+same-length-2 c = search needs
+
+returns-2 : tie.Need-returns-2
+unfolding entryOf
+returns-2 c = c .before .before .put-entry2 .ensures ∙ simp (c .before .before .before .before .before .piece2 .given .1, store-nil)
+
+same-length-3 : tie.Need-same-length-3
+same-length-3 c = search needs
+
+returns-3 : tie.Need-returns-3
+unfolding entryOf
+returns-3 c = c .before .before .put-entry3 .ensures ∙ simp (c .before .before .before .before .before .piece3 .given .1, store-nil)
+
+pub write-piece-spec : {M : Type 1} → statement M
+write-piece-spec =
+    tie.close
+    (tie.spec
+    enum-known-piece
+    add-end
+    sub-put-entry
+    cast-put-entry
+    cast-put-entry-2
+    put-entry-requires
+    sub-bytes
+    part-bytes-start
+    part-bytes-end
+    bytes-requires
+    enum-known-piece-2
+    cast-put-entry-3
+    put-entry-requires-2
+    enum-known-piece-3
+    put-entry-requires-3
+    same-length
+    returns
+    same-length-2
+    returns-2
+    same-length-3
+    returns-3)

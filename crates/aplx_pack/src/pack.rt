@@ -1,0 +1,78 @@
+// The packer.
+ghost use mathlib.Core.Path.{_≡_};
+ghost use Prim.Native.Nat.{_≤_};
+ghost use lib.ListN.{length};
+ghost use Rattle.words.specs.Store.{store};
+ghost use Rattle.plan.specs.Packed.{outputAfter, outcomeOf, planPieces, Accepted};
+ghost use Rattle.plan.specs.Code.Packer.{outcomeIs};
+ghost use Rattle.aplx_pack.specs.Image.{aplxImage, packAplx};
+use memory_map::answer::OUTPUT_TOO_SMALL;
+use memory_map::answer::Refusal;
+use plan::packed::Answer;
+use plan::piece::Judged;
+use plan::piece::Target;
+
+// The length of the image of a plan with so many pieces.
+fn image_size(plan: &[u8], count: u32) -> usize
+    requires { ⌜ Accepted 32 (now plan) × (count ≡ length (planPieces 32 (now plan))) × (count ≤ 64) ⌝ }
+    ensures { λ r. ⌜ r ≡ length (aplxImage (planPieces 32 (now (plan .entry)))) ⌝ }
+{
+    let mut size: usize = 16 * (count as usize + 1);
+    let mut i: u32 = 0;
+    while i < count {
+        match plan::piece::piece_at(plan, Target::Aplx, i) {
+            Judged::Good(piece) => {
+                size += crate::entry::data_size(piece);
+                i += 1;
+            }
+            Judged::Bad(_) => {
+                return size;
+            }
+        }
+    }
+    size
+}
+
+// The image of a plan with so many pieces, at the output's front.
+fn write_image(plan: &[u8], count: u32, output: &mut [u8])
+    requires { ⌜ Accepted 32 (now plan) × (count ≡ length (planPieces 32 (now plan))) × (count ≤ 64) × (length (aplxImage (planPieces 32 (now plan))) ≤ length (now output)) ⌝ }
+    ensures { λ _. ⌜ now (output .exit) ≡ store (now (output .entry)) 0 (aplxImage (planPieces 32 (now (plan .entry)))) ⌝ }
+{
+    let mut place: usize = 16 * (count as usize + 1);
+    let mut i: u32 = 0;
+    while i < count {
+        match plan::piece::piece_at(plan, Target::Aplx, i) {
+            Judged::Good(piece) => {
+                crate::entry::write_piece(plan, piece, output, 16 * (i as usize), place);
+                place += crate::entry::data_size(piece);
+                i += 1;
+            }
+            Judged::Bad(_) => {
+                return;
+            }
+        }
+    }
+    crate::entry::put_entry(output, 16 * (count as usize), 0xffffffff, 0, 0, 0);
+}
+
+// Packs a plan as an APLX image at the output's front. A refused plan changes no byte of the output.
+pub fn pack(plan: &[u8], output: &mut [u8]) -> Answer
+    ensures { λ r. ⌜ outcomeIs r ≡ outcomeOf (packAplx (now (plan .entry)) (length (now (output .entry)))) ⌝ }
+    ensures { λ r. ⌜ now (output .exit) ≡ outputAfter (packAplx (now (plan .entry)) (length (now (output .entry)))) (now (output .entry)) ⌝ }
+{
+    match plan::read::read(plan, Target::Aplx) {
+        plan::read::Answer::Refused(refusal) => Answer::Refused(refusal),
+        plan::read::Answer::Pieces(pieces) => {
+            let count = pieces as u32;
+            let size = image_size(plan, count);
+            if output.len() < size {
+                return Answer::Refused(Refusal {
+                    number: OUTPUT_TOO_SMALL,
+                    place: pieces,
+                });
+            }
+            write_image(plan, count, output);
+            Answer::Packed { size }
+        }
+    }
+}

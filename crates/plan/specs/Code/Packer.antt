@@ -1,0 +1,20 @@
+-- What a packer's code says of pieces and answers, in the terms of the definitions.
+use mathlib.Core.Path.{_≡_}
+use mathlib.Core.List.{List}
+use Prim.Native.Nat.{ℕ, _+_, _%_, _≤_}
+use lib.ListN.{length}
+use Rattle.plan.specs.declared.piece.Piece as code-piece
+use Rattle.plan.specs.declared.piece.Piece.the-variants.{Put, Fill, Run}
+use Rattle.plan.specs.declared.packed.Answer as code-answer
+use Rattle.plan.specs.declared.packed.Answer.the-variants as answer
+use Rattle.plan.specs.Packed.{Outcome, refusal, sized}
+
+-- a piece of the plan s that can be written to a medium with this unit
+abbrev pub Writable : ℕ → List ℕ → code-piece.Piece → Type 0
+Writable unit s (Put a o n) = (o + n ≤ length s) × (n % unit ≡ 0) × (n ≤ 65536)
+Writable unit s (Fill a n w) = (n % unit ≡ 0) × (n ≤ 65536)
+Writable unit s (Run a) = Unit {0}
+
+abbrev pub outcomeIs : code-answer.Answer → Outcome
+outcomeIs (answer.Refused r) = refusal (r .number) (r .place)
+outcomeIs (answer.Packed n) = sized n
