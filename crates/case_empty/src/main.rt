@@ -1,0 +1,4 @@
+// No input.
+fn main() {
+    conversion::program::run();
+}

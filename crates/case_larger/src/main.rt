@@ -1,0 +1,4 @@
+// One entry more in the image.
+fn main() {
+    conversion::program::run();
+}

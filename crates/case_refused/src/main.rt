@@ -1,0 +1,4 @@
+// A put of 20 bytes.
+fn main() {
+    conversion::program::run();
+}
