@@ -4,20 +4,13 @@ use mathlib.Core.Bool.{true, false}
 use mathlib.Core.List.{List, [], _∷_, _++_}
 use Prim.Native.Nat.{ℕ, zero}
 use lib.ListN.{take, drop, replicate}
-use Rattle.words.specs.Bytes.{littleEndian, fromLittleEndian, firstBytes, littleEndianAt}
-use Rattle.words.specs.Range.{meets}
+use Rattle.words.specs.Bytes.{littleEndian}
 use Rattle.words.specs.Repeat.{repeated}
-use Rattle.words.specs.Round.{roundUp}
-use Rattle.words.specs.Store.{store}
 use Rattle.memory_map.specs.declared.region.Region.{Region}
 use Rattle.memory_map.specs.Outcome.{Outcome, refused, accepted, end, unknown, run, arm, thumb}
-use Rattle.memory_map.specs.Region.{permits}
 use Rattle.memory_map.specs.Lookup.{Lookup, lookupIn}
-use Rattle.memory_map.specs.Entry.{legal, runEntry}
-use Rattle.aplx.specs.Command.{commandOf, commandAt}
-use Rattle.aplx.specs.Copy.{copyWords, copied}
-use Rattle.aplx.specs.Walk.{otherCommand, tests, judge, walkFor, walk, commands}
-use Rattle.aplx.specs.Load.{meetsHeader, headerTest, perform, performAll, bytesIn, look, loadWith}
+use Rattle.aplx.specs.Load.{loadWith}
+use Rattle.aplx.specs.Open as group
 
 -- 256 bytes at address 4096 with every right, then 64 bytes at 8192 that may only be read
 abbrev ram : Region
@@ -59,7 +52,7 @@ record Lengths : Type 0 where
   pub filled : left 124 40 (entry 3 4224 1 0x01020304 ++ last) ≡ 7 ∷ 7 ∷ 7 ∷ 7 ∷ (repeated 8 0x01020304 ++ 7 ∷ 7 ∷ 7 ∷ 7 ∷ [])
 
 lengths : Lengths
-unfolding outcome left memory entry last find loadWith look walk walkFor judge tests otherCommand commands commandAt commandOf headerTest meetsHeader perform performAll copied copyWords bytesIn meets repeated roundUp store littleEndian littleEndianAt fromLittleEndian firstBytes lookupIn permits
+unfolding outcome left memory entry last find group.load
 lengths = record { zero = refl; one = refl; whole = refl; over = refl; longest = refl; filled = refl }
 
 -- copies: the entries, then 32 bytes of data at 4128, copied up by 4, down by 4, and by an offset to data before the header
@@ -80,7 +73,7 @@ record Copies : Type 0 where
   pub before-header-outcome : loadWith find (memory behind) 4128 .outcome ≡ accepted (end 1) 1 32
 
 copies : Copies
-unfolding up down behind ones outcome left memory entry last find loadWith look walk walkFor judge tests otherCommand commands commandAt commandOf headerTest meetsHeader perform performAll copied copyWords bytesIn meets repeated roundUp store littleEndian littleEndianAt fromLittleEndian firstBytes lookupIn permits
+unfolding up down behind ones outcome left memory entry last find group.load
 copies = record { upward = refl; downward = refl; before-header = refl; before-header-outcome = refl }
 
 -- stops and refusals
@@ -115,7 +108,7 @@ record Stops : Type 0 where
   pub nine-before-eight : outcome (entry 3 4096 32 9 ++ entry 4 4098 0 0) ≡ refused 9 1
 
 stops : Stops
-unfolding outcome memory entry last find loadWith look walk walkFor judge tests otherCommand commands commandAt commandOf headerTest meetsHeader perform performAll copied copyWords bytesIn meets repeated roundUp store littleEndian littleEndianAt fromLittleEndian firstBytes lookupIn permits runEntry legal
+unfolding outcome memory entry last find group.load
 stops = record {
   end-first = refl;
   unknown-word = refl;

@@ -4,4 +4,5 @@ pub mod Copy
 pub mod Walk
 pub mod Load
 pub mod Code
+pub mod Open
 pub mod Examples

@@ -3,10 +3,10 @@ use mathlib.Core.Path.{_≡_, refl}
 use mathlib.Core.List.{List, [], _∷_}
 use Prim.Native.Nat.{ℕ}
 use lib.ListN.{length, take, drop, replicate}
-use Rattle.words.specs.Bytes.{littleEndian, fromLittleEndian, firstBytes, littleEndianAt}
-use Rattle.plan.specs.Plan.{put, fill, run, judgeRun, judgeFill, judgeData, judgePut, judgeKind, judgeAt, pieceAt, readPieces, readPlan}
+use Rattle.plan.specs.Plan.{put, fill, run}
 use Rattle.plan.specs.Packed.{refuses, packs}
-use Rattle.aplx_pack.specs.Image.{entry, entryOf, entries, datas, aplxImage, packAplx}
+use Rattle.aplx_pack.specs.Image.{aplxImage, packAplx}
+use Rattle.aplx_pack.specs.Open as group
 
 record Images : Type 0 where
   pub empty : aplxImage [] ≡ 0xff ∷ 0xff ∷ 0xff ∷ 0xff ∷ replicate 12 0
@@ -21,7 +21,7 @@ record Images : Type 0 where
   pub second-put : take 4 (drop 24 (aplxImage (put 0 (replicate 32 7) ∷ put 64 (replicate 32 8) ∷ []))) ≡ 0x40 ∷ 0 ∷ 0 ∷ 0 ∷ []
 
 images : Images
-unfolding aplxImage entries entryOf entry datas littleEndian
+unfolding group.image
 images = record { empty = refl; fill-and-run = refl; put-entry = refl; put-length = refl; put-data = refl; second-put = refl }
 
 -- a plan of one put of 32 bytes, whose data stands behind the table
@@ -35,5 +35,5 @@ record Packings : Type 0 where
   pub too-small : packAplx thirty-two 63 ≡ refuses 10 1
 
 packings : Packings
-unfolding packAplx thirty-two readPlan readPieces pieceAt judgeAt judgeKind judgePut judgeData judgeFill judgeRun littleEndianAt fromLittleEndian firstBytes aplxImage entries entryOf entry datas littleEndian
+unfolding thirty-two group.image
 packings = record { as-long = refl; too-small = refl }

@@ -3,8 +3,6 @@ use mathlib.Core.Path.{_≡_, refl}
 use mathlib.Core.Bool.{true, false}
 use mathlib.Core.List.{List, [], _∷_}
 use Prim.Native.Nat.{ℕ, zero, suc, _*_}
-use Rattle.words.specs.Choice.{every}
-use Rattle.words.specs.Range.{meets}
 use Rattle.memory_map.specs.declared.region.Region.{Region}
 use Rattle.memory_map.specs.declared.region.Right.the-variants.{Read, Write, Run}
 use Rattle.memory_map.specs.declared.map.Map.{Map}
@@ -12,12 +10,12 @@ use Rattle.memory_map.specs.declared.answer.Entry.the-variants.{Arm, Thu
 use Rattle.memory_map.specs.declared.answer.Stop.the-variants as code-stop
 use Rattle.memory_map.specs.declared.answer.Answer.the-variants as code-answer
 use Rattle.memory_map.specs.Outcome as outcome
-use Rattle.memory_map.specs.Region.{keepsRules, clear, endsInside, permits}
-use Rattle.memory_map.specs.Map.{regionsOf, allKeepRules, wellFormed, sound, emptyMap, extended, Verdict, taken, add}
+use Rattle.memory_map.specs.Map.{sound, emptyMap, Verdict, taken, add}
 use Rattle.memory_map.specs.Map as map
 use Rattle.memory_map.specs.Lookup.{at, refused, lookupIn}
-use Rattle.memory_map.specs.Entry.{legal, runEntry, entry}
+use Rattle.memory_map.specs.Entry.{runEntry, entry}
 use Rattle.memory_map.specs.Entry as run
+use Rattle.memory_map.specs.Open as group
 
 -- a region with every right
 abbrev open-region : ℕ → ℕ → ℕ → Region
@@ -52,7 +50,7 @@ record Additions : Type 0 where
   pub as-it-was : add (many 8) (open-region 256 32 256) .map ≡ many 8
 
 additions : Additions
-unfolding alone beside many add extended wellFormed allKeepRules regionsOf keepsRules clear every meets
+unfolding alone beside many group.maps
 additions = record {
   highest-end = refl;
   past-highest-end = refl;
@@ -77,7 +75,7 @@ record Soundness : Type 0 where
   pub nine : sound (record { regions = many 8 .regions; count = 9 }) 256 ≡ false
 
 soundness : Soundness
-unfolding many sound add extended wellFormed allKeepRules regionsOf keepsRules clear endsInside every meets
+unfolding many group.maps
 soundness = record { empty = refl; exact = refl; short = refl; nine = refl }
 
 -- 64 bytes at 4096 to read and write, and 64 bytes at 4160 to read and run
@@ -102,7 +100,7 @@ record Lookups : Type 0 where
   pub no-run-right : runEntry (lookupIn two) 4096 ≡ run.refused 9
 
 lookups : Lookups
-unfolding two lookupIn permits legal runEntry
+unfolding two group.lookups
 lookups = record {
   first = refl;
   second = refl;

@@ -4,4 +4,5 @@ pub mod Region
 pub mod Map
 pub mod Lookup
 pub mod Entry
+pub mod Open
 pub mod Examples

@@ -4,17 +4,14 @@ use mathlib.Core.Bool.{true}
 use mathlib.Core.List.{List, [], _∷_, _++_}
 use Prim.Native.Nat.{ℕ, _+_, _*_}
 use lib.ListN.{length, take, replicate}
-use Rattle.words.specs.Bytes.{littleEndian, fromLittleEndian, firstBytes, littleEndianAt}
-use Rattle.words.specs.Repeat.{repeated, filling}
-use Rattle.words.specs.Store.{store}
-use Rattle.memory_map.specs.Region.{permits}
+use Rattle.words.specs.Bytes.{littleEndian}
 use Rattle.memory_map.specs.Lookup.{Lookup, lookupIn}
-use Rattle.memory_map.specs.Entry.{legal, runEntry}
 use Rattle.plan.specs.declared.packed.Answer.the-variants as code-answer
 use Rattle.plan.specs.Code.Packer.{outcomeIs}
-use Rattle.plan.specs.Plan.{Piece, put, fill, run, judgeRun, judgeFill, judgeData, judgePut, judgeKind, judgeAt, pieceAt, refused, pieces, readPieces, readPlan}
+use Rattle.plan.specs.Plan.{Piece, put, fill, run, refused, pieces, readPlan}
 use Rattle.plan.specs.Packed.{refuses, packs, packedAs, refusal, sized}
-use Rattle.plan.specs.Meaning.{permit, effect, effects, stretch, ends, runs, denies, finish, meaning}
+use Rattle.plan.specs.Meaning.{ends, runs, denies, meaning}
+use Rattle.plan.specs.Open as group
 
 words : List ℕ → List ℕ
 words [] = []
@@ -53,7 +50,7 @@ record Plans : Type 0 where
   pub second : readPlan 32 (plan 2 (2 ∷ 0 ∷ 32 ∷ 0 ∷ 9 ∷ 0 ∷ 0 ∷ 0 ∷ []) []) ≡ refused 11 1
 
 plans : Plans
-unfolding words plan ones readPlan readPieces pieceAt judgeAt judgeKind judgePut judgeData judgeFill judgeRun littleEndian littleEndianAt fromLittleEndian firstBytes
+unfolding words plan ones group.reader
 plans = record {
   empty = refl;
   three = refl;
@@ -101,7 +98,7 @@ record Meanings : Type 0 where
   pub run-denied : meaning find (fill 4096 4 0 ∷ run 4098 ∷ []) 0 memory ≡ record { finish = denies 9 1; memory = memory }
 
 meanings : Meanings
-unfolding find listed meaning finish stretch effects effect permit filling repeated littleEndian store lookupIn permits runEntry legal
+unfolding find listed group.meanings
 meanings = record {
   first-stretch = refl;
   in-plan-order = refl;

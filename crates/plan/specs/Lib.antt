@@ -3,4 +3,5 @@ pub mod Plan
 pub mod Meaning
 pub mod Packed
 pub mod Code
+pub mod Open
 pub mod Examples

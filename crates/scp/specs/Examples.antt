@@ -4,16 +4,13 @@ use mathlib.Core.Bool.{true}
 use mathlib.Core.List.{List, [], _∷_, _++_}
 use Prim.Native.Nat.{ℕ}
 use lib.ListN.{length, take, replicate}
-use Rattle.words.specs.Choice.{every}
-use Rattle.words.specs.Bytes.{littleEndian, fromLittleEndian, firstBytes, littleEndianAt}
-use Rattle.words.specs.Store.{store}
+use Rattle.words.specs.Bytes.{littleEndian}
 use Rattle.memory_map.specs.Outcome.{arm, thumb}
-use Rattle.memory_map.specs.Region.{permits}
 use Rattle.memory_map.specs.Lookup.{Lookup, lookupIn}
-use Rattle.memory_map.specs.Entry.{legal, runEntry}
 use Rattle.scp.specs.declared.answer.Identity.{Identity}
-use Rattle.scp.specs.Packet.{header, aligned, version}
-use Rattle.scp.specs.Answer.{responds, runs, runPacket, readPacket, writeWhole, writePacket}
+use Rattle.scp.specs.Packet.{version}
+use Rattle.scp.specs.Answer.{responds, runs, runPacket, readPacket, writePacket}
+use Rattle.scp.specs.Open as group
 
 -- 512 bytes at address 4096 with every right
 find : Lookup
@@ -47,7 +44,7 @@ record Reads : Type 0 where
   pub nothing-odd : readPacket find (asks 2 1 0 2) memory .response ≡ 0x84 ∷ 0 ∷ 0x11 ∷ 0x22 ∷ []
 
 reads : Reads
-unfolding find asks readPacket header aligned lookupIn permits littleEndian littleEndianAt fromLittleEndian firstBytes
+unfolding find asks group.answers
 reads = record {
   most = refl;
   data-there = refl;
@@ -76,7 +73,7 @@ record Writes : Type 0 where
   pub nothing : writePacket find (asks 3 0 0 2) memory .response ≡ 0x80 ∷ 0 ∷ 0x11 ∷ 0x22 ∷ []
 
 writes : Writes
-unfolding find asks writePacket writeWhole header aligned lookupIn permits store littleEndian littleEndianAt fromLittleEndian firstBytes
+unfolding find asks group.answers
 writes = record {
   bytes = refl;
   halfwords = refl;
@@ -101,7 +98,7 @@ record Others : Type 0 where
   pub run-short : runPacket find (take 7 (asks 1 4096 0 0)) memory .response ≡ 0x81 ∷ 0 ∷ 0x11 ∷ 0x22 ∷ []
 
 others : Others
-unfolding find asks identity version header runPacket runEntry legal lookupIn permits littleEndian littleEndianAt fromLittleEndian firstBytes
+unfolding find asks identity group.answers
 others = record {
   version-reply = refl;
   run-arm = refl;

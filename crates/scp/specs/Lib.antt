@@ -2,4 +2,5 @@
 pub mod Packet
 pub mod Answer
 pub mod Code
+pub mod Open
 pub mod Examples

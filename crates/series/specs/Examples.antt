@@ -1,20 +1,16 @@
 -- Computed examples of series and of the places that the two media name.
 use mathlib.Core.Path.{_≡_, refl}
-use mathlib.Core.Bool.{true, false}
+use mathlib.Core.Bool.{true}
 use mathlib.Core.List.{List, [], _∷_}
 use Prim.Native.Nat.{ℕ}
 use lib.ListN.{set, drop, replicate}
-use Rattle.words.specs.Bytes.{littleEndian, bigEndian}
-use Rattle.words.specs.Repeat.{repeated, filling}
-use Rattle.words.specs.Swap.{swapWords}
 use Rattle.memory_map.specs.Outcome as outcome
 use Rattle.memory_map.specs.Outcome.{end, thumb, Ending, stops, refuses}
-use Rattle.memory_map.specs.Region.{permits}
 use Rattle.memory_map.specs.Lookup.{Lookup, lookupIn}
-use Rattle.memory_map.specs.Entry.{legal, runEntry}
 use Rattle.plan.specs.Plan.{Piece, put, fill, run}
-use Rattle.plan.specs.Meaning.{permit, stretch, finish}
-use Rattle.srom_pack.specs.Image.{block, blockOf, blocks, blockAt}
+use Rattle.plan.specs.Meaning.{stretch, finish}
+use Rattle.plan.specs.Open as plan-group
+use Rattle.srom_pack.specs.Open as srom-pack-group
 use Rattle.series.specs.Series.{changed, Left, series}
 use Rattle.series.specs.Medium.{Medium, srom, aplx, endingIn}
 
@@ -59,5 +55,5 @@ record Places : Type 0 where
   pub aplx-end : ending (aplx 4096) 4 ≡ stops (end 0)
 
 places : Places
-unfolding ending plan find lookupIn permits finish stretch permit runEntry legal blockAt blocks blockOf block bigEndian littleEndian swapWords filling repeated
+unfolding ending plan find plan-group.meanings srom-pack-group.image
 places = record { srom-run = refl; aplx-run = refl; srom-denied = refl; aplx-denied = refl; srom-end = refl; aplx-end = refl }

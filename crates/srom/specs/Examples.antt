@@ -4,16 +4,12 @@ use mathlib.Core.Bool.{true, false}
 use mathlib.Core.List.{List, [], _∷_, _++_}
 use Prim.Native.Nat.{ℕ, zero, suc}
 use lib.ListN.{take, drop, replicate}
-use Rattle.words.specs.Bytes.{fromLittleEndian, fromBigEndian, firstBytes, littleEndianAt, bigEndianAt}
-use Rattle.words.specs.Swap.{swapWords}
-use Rattle.words.specs.Store.{store}
+use Rattle.words.specs.Bytes.{littleEndianAt}
 use Rattle.memory_map.specs.declared.region.Region.{Region}
 use Rattle.memory_map.specs.Outcome.{refused, accepted, end, run, arm, thumb}
-use Rattle.memory_map.specs.Region.{permits}
 use Rattle.memory_map.specs.Lookup.{Lookup, lookupIn}
-use Rattle.memory_map.specs.Entry.{legal, runEntry}
-use Rattle.srom.specs.Walk.{dataBlock, blockAt, itemAt, walkFor, walk}
-use Rattle.srom.specs.Load.{bytesIn, storeBlocks, look, loadWith}
+use Rattle.srom.specs.Load.{loadWith}
+use Rattle.srom.specs.Open as group
 
 -- the top 32 bytes of System RAM, to read and write; and 32 bytes from 0x7fe0 on, to run
 abbrev ram : Region
@@ -43,7 +39,7 @@ record SecondDump : Type 0 where
   pub rest : drop 32 (loadWith find dump 0 memory .memory) ≡ replicate 32 7
 
 second-dump : SecondDump
-unfolding dump find loadWith look walk walkFor itemAt blockAt dataBlock bytesIn storeBlocks store swapWords lookupIn permits littleEndianAt bigEndianAt fromLittleEndian fromBigEndian firstBytes
+unfolding dump find group.load
 second-dump = record { outcome = refl; flags = refl; ip-address = refl; port = refl; rest = refl }
 
 -- the first dump of document 004: 7 words, then a run of 0x7fe0, then the end. Its data is not given: here each word is 0x01020304
@@ -64,7 +60,7 @@ record FirstDump : Type 0 where
   pub resumed : loadWith find first-dump 44 memory ≡ record { outcome = accepted (end 44) 0 0; memory = memory }
 
 first-dump-loads : FirstDump
-unfolding first-dump words find loadWith look walk walkFor itemAt blockAt dataBlock bytesIn storeBlocks store swapWords lookupIn permits runEntry legal bigEndianAt fromLittleEndian fromBigEndian firstBytes
+unfolding first-dump words find group.load
 first-dump-loads = record { outcome = refl; stored = refl; rest = refl; resumed = refl }
 
 -- short slices and refusals, at any memory
@@ -85,7 +81,7 @@ module _ (m : List ℕ) where
         ≡ record { outcome = refused 4 11; memory = m }
 
   short : Short
-  unfolding find loadWith look walk walkFor itemAt blockAt dataBlock bytesIn storeBlocks store swapWords lookupIn permits runEntry legal bigEndianAt fromLittleEndian fromBigEndian firstBytes
+  unfolding find group.load
   short = record {
     only-end = refl;
     empty = refl;

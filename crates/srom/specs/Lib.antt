@@ -2,4 +2,5 @@
 pub mod Walk
 pub mod Load
 pub mod Code
+pub mod Open
 pub mod Examples

@@ -3,12 +3,10 @@ use mathlib.Core.Path.{_≡_, refl}
 use mathlib.Core.List.{List, [], _∷_}
 use Prim.Native.Nat.{ℕ}
 use lib.ListN.{replicate}
-use Rattle.words.specs.Bytes.{littleEndian, bigEndian, fromLittleEndian, firstBytes, littleEndianAt}
-use Rattle.words.specs.Repeat.{repeated, filling}
-use Rattle.words.specs.Swap.{swapWords}
-use Rattle.plan.specs.Plan.{put, fill, run, judgeRun, judgeFill, judgeData, judgePut, judgeKind, judgeAt, pieceAt, readPieces, readPlan}
+use Rattle.plan.specs.Plan.{put, fill, run}
 use Rattle.plan.specs.Packed.{refuses, packs}
-use Rattle.srom_pack.specs.Image.{block, blockOf, blocks, sromImage, blockAt, packSrom}
+use Rattle.srom_pack.specs.Image.{sromImage, blockAt, packSrom}
+use Rattle.srom_pack.specs.Open as group
 
 record Images : Type 0 where
   pub empty : sromImage [] ≡ 0x55 ∷ 0xff ∷ []
@@ -21,7 +19,7 @@ record Images : Type 0 where
   pub end-byte : blockAt (fill 8 4 0 ∷ fill 4 4 0 ∷ []) 2 ≡ 23
 
 images : Images
-unfolding sromImage blocks blockOf block blockAt swapWords filling repeated littleEndian bigEndian
+unfolding group.image
 images = record { empty = refl; one-fill = refl; put-and-run = refl; plan-order = refl; second-block = refl; end-byte = refl }
 
 -- a plan of one put of 20 bytes, whose data stands behind the table
@@ -36,5 +34,5 @@ record Packings : Type 0 where
   pub too-small : packSrom twenty 28 ≡ refuses 10 1
 
 packings : Packings
-unfolding packSrom twenty readPlan readPieces pieceAt judgeAt judgeKind judgePut judgeData judgeFill judgeRun littleEndianAt fromLittleEndian firstBytes sromImage blocks blockOf block swapWords littleEndian bigEndian
+unfolding twenty group.image
 packings = record { as-long = refl; too-small = refl }

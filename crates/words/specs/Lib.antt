@@ -6,3 +6,4 @@ pub mod Store
 pub mod Repeat
 pub mod Round
 pub mod Range
+pub mod Open

@@ -1,6 +1,5 @@
 -- The pieces marked P (paper 01, "Bench pieces with known weight"), said of the definitions as a single table. Only the statement stands
 -- here; Table/Proved.antt has the proof. Setting.antt has the inputs.
-pub mod Open
 pub mod Proved
 use mathlib.Core.Path.{_≡_}
 use mathlib.Core.Bool.{true}

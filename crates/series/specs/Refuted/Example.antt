@@ -10,15 +10,14 @@ use borrow.Author.Tests.{ltb-true}
 use Rattle.words.specs.Choice.{All, every}
 use Rattle.words.specs.Choice.Laws.{every-all, all-map}
 use Rattle.words.specs.Bytes.{Bytes}
-use Rattle.words.specs.Range.{meets}
 use Rattle.memory_map.specs.declared.region.Region.{Region}
 use Rattle.memory_map.specs.declared.region.Right.the-variants.{Read}
 use Rattle.memory_map.specs.declared.map.Map.{Map}
 use Rattle.memory_map.specs.Outcome.{Loaded}
-use Rattle.memory_map.specs.Region.{keepsRules, clear, endsInside}
-use Rattle.memory_map.specs.Map.{regionsOf, allKeepRules, wellFormed, sound, emptyMap, extended, add}
+use Rattle.memory_map.specs.Map.{sound, emptyMap, add}
 use Rattle.memory_map.specs.Lookup.{at, Lookup, lookupIn, lookup}
 use Rattle.memory_map.specs.Lookup.Laws.{lookup-is}
+use Rattle.memory_map.specs.Open as map-group
 use Rattle.srom.specs.Walk.{Walk}
 use Rattle.srom.specs.Load as srom-load
 use Rattle.srom.specs.Load.{sromLook, sromLoad}
@@ -48,7 +47,7 @@ unfoldable pub example : Map
 example = add (add emptyMap image-region .map) load-region .map
 
 example-sound : sound example 256 ≡ true
-unfolding example sound add extended wellFormed allKeepRules regionsOf keepsRules clear endsInside every meets
+unfolding example map-group.maps
 example-sound = refl
 
 -- its lookup, which computes
@@ -56,7 +55,7 @@ unfoldable pub find : Lookup
 find = lookupIn (image-region ∷ load-region ∷ [])
 
 finds : lookup example ≡ find
-unfolding find example add extended wellFormed allKeepRules regionsOf keepsRules clear every meets
+unfolding find example map-group.maps
 finds = lookup-is example
 
 -- ---- the plan and the image

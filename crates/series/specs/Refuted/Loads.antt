@@ -10,13 +10,17 @@ use Rattle.memory_map.specs.Lookup.{Lookup}
 use Rattle.srom.specs.Walk.{Walk}
 use Rattle.srom.specs.Load as srom-load
 use Rattle.srom.specs.Load.{storeBlocks, outcomeOfWalk}
+use Rattle.srom.specs.Open as srom-group
 use Rattle.aplx.specs.Load as aplx-load
 use Rattle.aplx.specs.Load.{Look, performAll, outcomeOfLook}
+use Rattle.aplx.specs.Open as aplx-group
+use Rattle.plan.specs.Open as plan-group
 use Rattle.srom_pack.specs.Image.{sromImage}
+use Rattle.srom_pack.specs.Open as srom-pack-group
 use Rattle.aplx_pack.specs.Image.{aplxImage}
+use Rattle.aplx_pack.specs.Open as aplx-pack-group
 use Rattle.series.specs.Demand.{Demand3}
 use Rattle.series.specs.Refuted.Example.{find, memoryWith, in-slice, in-memory, loadingSrom, loadingAplx, srom-loaded, aplx-loaded}
-use Rattle.series.specs.Refuted.Open.{reader, meanings, sroms, aplxs}
 use Rattle.series.specs.Refuted.Plans.{twoFills, two-pieces, reads-beside, reads-outside}
 
 -- ---- the loaders
@@ -59,7 +63,7 @@ pub record WrongSromLoads : Type 0 where
   pub in-turn-refuted : Demand3 (loadingSrom turnSrom) → ⊥
 
 pub wrong-srom-loads : WrongSromLoads
-unfolding twoFills find memoryWith reader meanings sroms
+unfolding twoFills find memoryWith plan-group.meanings srom-pack-group.image srom-group.load aplx-pack-group.image
 wrong-srom-loads = record {
   idle-ends = refl;
   idle-refuted = λ d.
@@ -85,7 +89,7 @@ pub record WrongAplxLoads : Type 0 where
   pub in-turn-refuted : Demand3 (loadingAplx turnAplx) → ⊥
 
 pub wrong-aplx-loads : WrongAplxLoads
-unfolding twoFills find memoryWith reader meanings aplxs
+unfolding twoFills find memoryWith plan-group.meanings aplx-pack-group.image aplx-group.load
 wrong-aplx-loads = record {
   idle-ends = refl;
   idle-refuted = λ d.

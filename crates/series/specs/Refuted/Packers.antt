@@ -7,13 +7,17 @@ use native.Mathlib.Omega.{arith}
 use lib.Dec.{leb}
 use lib.ListN.{length, replicate}
 use Rattle.words.specs.Choice.{if_then_else_}
+use Rattle.srom.specs.Open as srom-group
+use Rattle.aplx.specs.Open as aplx-group
 use Rattle.plan.specs.Plan.{Piece, put, fill, run, Read, refused, pieces, readPlan}
 use Rattle.plan.specs.Packed.{Packed, packedAs}
+use Rattle.plan.specs.Open as plan-group
 use Rattle.srom_pack.specs.Image.{sromImage}
+use Rattle.srom_pack.specs.Open as srom-pack-group
 use Rattle.aplx_pack.specs.Image.{aplxImage}
+use Rattle.aplx_pack.specs.Open as aplx-pack-group
 use Rattle.series.specs.Demand.{Demand3}
 use Rattle.series.specs.Refuted.Example.{find, memoryWith, in-slice, in-memory, packingSrom, packingAplx, srom-packed, aplx-packed}
-use Rattle.series.specs.Refuted.Open.{reader, meanings, sroms, aplxs}
 use Rattle.series.specs.Refuted.Plans.{twoFills, fillAndPut, reads-beside, reads-over, reads-18, reads-20}
 
 -- ---- the packers
@@ -67,7 +71,7 @@ pub record WrongSromPackers : Type 0 where
   pub constant-refuted : Demand3 (packingSrom (sromOf 4 constant)) → ⊥
 
 pub wrong-srom-packers : WrongSromPackers
-unfolding twoFills fillAndPut sorted inserted padded find memoryWith reader meanings sroms
+unfolding twoFills fillAndPut sorted inserted padded find memoryWith plan-group.meanings srom-pack-group.image srom-group.load aplx-pack-group.image
 wrong-srom-packers = record {
   sorted-refuted = λ d.
       let z : _≡_ {A = ℕ} 1 2 = srom-packed reads-over (sromOf 4 sorted) d (in-slice refl) refl 132 in
@@ -90,7 +94,7 @@ pub record WrongAplxPackers : Type 0 where
   pub constant-refuted : Demand3 (packingAplx (aplxOf 32 constant)) → ⊥
 
 pub wrong-aplx-packers : WrongAplxPackers
-unfolding twoFills fillAndPut sorted inserted padded find memoryWith reader meanings aplxs
+unfolding twoFills fillAndPut sorted inserted padded find memoryWith plan-group.meanings aplx-pack-group.image aplx-group.load
 wrong-aplx-packers = record {
   sorted-refuted = λ d.
       let z : _≡_ {A = ℕ} 1 2 = aplx-packed reads-over (aplxOf 32 sorted) d (in-memory refl refl refl (refl, (refl, tt))) refl 132 in

@@ -3,10 +3,11 @@ use mathlib.Core.Path.{refl}
 use mathlib.Core.List.{List, [], _∷_, _++_}
 use Prim.Native.Nat.{ℕ}
 use lib.ListN.{replicate}
+use Rattle.words.specs.Open as words-group
 use Rattle.plan.specs.Plan.{Piece, put, fill}
 use Rattle.aplx_pack.specs.Image.{entry}
+use Rattle.aplx_pack.specs.Open as aplx-pack-group
 use Rattle.series.specs.Refuted.Example.{Reads}
-use Rattle.series.specs.Refuted.Open.{reader}
 
 -- ---- two fills of 32 bytes
 -- header and pieces are four words each, as the entries of APLX are
@@ -18,17 +19,17 @@ two-pieces a b = fill a 32 1 ∷ fill b 32 2 ∷ []
 
 -- side by side
 pub reads-beside : Reads (twoFills 8192 8224) (two-pieces 8192 8224)
-unfolding twoFills reader
+unfolding twoFills words-group.tests aplx-pack-group.image
 reads-beside = record { bytes = refl; read = refl }
 
 -- the second lies in no region
 pub reads-outside : Reads (twoFills 8192 12288) (two-pieces 8192 12288)
-unfolding twoFills reader
+unfolding twoFills words-group.tests aplx-pack-group.image
 reads-outside = record { bytes = refl; read = refl }
 
 -- the second begins before the first and goes over most of it
 pub reads-over : Reads (twoFills 8196 8192) (two-pieces 8196 8192)
-unfolding twoFills reader
+unfolding twoFills words-group.tests aplx-pack-group.image
 reads-over = record { bytes = refl; read = refl }
 
 -- ---- a fill of 32 bytes, and a put of n bytes over its first ones
@@ -39,9 +40,9 @@ abbrev pub fill-and-put : ℕ → List Piece
 fill-and-put n = fill 8192 32 0x01010101 ∷ put 8192 (replicate n 5) ∷ []
 
 pub reads-18 : Reads (fillAndPut 18) (fill-and-put 18)
-unfolding fillAndPut reader
+unfolding fillAndPut words-group.tests aplx-pack-group.image
 reads-18 = record { bytes = refl; read = refl }
 
 pub reads-20 : Reads (fillAndPut 20) (fill-and-put 20)
-unfolding fillAndPut reader
+unfolding fillAndPut words-group.tests aplx-pack-group.image
 reads-20 = record { bytes = refl; read = refl }

@@ -7,24 +7,30 @@ use native.Mathlib.Omega.{arith}
 use lib.ListN.{length, replicate}
 use lib.Seq.{take-all}
 use Rattle.words.specs.Bytes.{fromLittleEndian}
+use Rattle.words.specs.Open as words-group
 use Rattle.memory_map.specs.declared.region.Right.the-variants.{Read}
 use Rattle.memory_map.specs.declared.map.Map.{Map}
 use Rattle.memory_map.specs.Outcome.{Loaded}
 use Rattle.memory_map.specs.Map.{sound}
 use Rattle.memory_map.specs.Lookup.{Lookup, lookupIn, lookup}
 use Rattle.memory_map.specs.Lookup.Laws.{lookup-is}
+use Rattle.memory_map.specs.Open as map-group
 use Rattle.srom.specs.Load as srom-load
 use Rattle.srom.specs.Load.{sromLook, sromLoad}
+use Rattle.srom.specs.Open as srom-group
 use Rattle.aplx.specs.Load as aplx-load
 use Rattle.aplx.specs.Load.{aplxLook, aplxLoad}
+use Rattle.aplx.specs.Open as aplx-group
 use Rattle.scp.specs.Answer.{answered, readPacket}
+use Rattle.scp.specs.Open as scp-group
 use Rattle.plan.specs.Plan.{put, run, pieces, readPlan}
 use Rattle.plan.specs.Packed.{packs, packedAs}
 use Rattle.srom_pack.specs.Image.{packSrom}
+use Rattle.srom_pack.specs.Open as srom-pack-group
 use Rattle.aplx_pack.specs.Image.{entry, aplxImage, packAplx}
-use Rattle.worked_examples.specs.Setting.{mapOf, bytesFound, bytesAt, systemRam, holding, sliceLoaded, dump, putPlan, wordPlan, imageOf, around, entryLoaded, acopyEntry, rcopyEntry, fillEntry, readPacketOf}
+use Rattle.aplx_pack.specs.Open as aplx-pack-group
+use Rattle.worked_examples.specs.Setting.{words, mapOf, bytesFound, bytesAt, systemRam, holding, sliceLoaded, dump, putPlan, wordPlan, imageOf, around, entryLoaded, acopyEntry, rcopyEntry, fillEntry, readPacketOf}
 use Rattle.worked_examples.specs.Table.{Table}
-use Rattle.worked_examples.specs.Table.Open.{maps, bytes, packers, sroms, aplxs, packets}
 
 -- ---- a load with a map is the load with what its lookup finds
 module _ (map : Map) (find : Lookup) (finds : lookup map ≡ find) (m : List ℕ) (good : sound map (length m) ≡ true) where
@@ -46,7 +52,7 @@ record Finds : Type 0 where
   pub packets : lookup (mapOf 4096 260 0) ≡ findOf 4096 260 0
 
 finds : Finds
-unfolding maps
+unfolding mapOf map-group.maps
 finds = record {
   system = lookup-is systemRam;
   entries = lookup-is (mapOf 4096 192 0);
@@ -58,7 +64,7 @@ abbrev sliceFound : List ℕ → Loaded
 sliceFound s = srom-load.loadWith (findOf 0xf5007fd0 48 8) s 0 (holding [])
 
 slice-load : (s : List ℕ) → sliceLoaded s ≡ sliceFound s
-unfolding maps bytes
+unfolding mapOf map-group.maps words-group.stores
 slice-load s = srom-with systemRam (findOf 0xf5007fd0 48 8) (finds .system) (holding []) refl s 0
 
 slice-bytes :
@@ -74,20 +80,20 @@ entry-load entry good = aplx-with (mapOf 4096 192 0) (findOf 4096 192 0) (finds 
 -- ---- the plan of a put
 module _ (d : List ℕ) (e : length d ≡ 32) where
   put-reads : readPlan 32 (putPlan d) ≡ pieces (put 0 d ∷ run 0 ∷ [])
-  unfolding bytes packers
+  unfolding words aplx-pack-group.image
   put-reads = simp (e, take-all 32 d (omega arith))
 
   put-packs : packAplx (putPlan d) 65536 ≡ packs (entry 2 0 48 32 ++ (entry 4 0 0 0 ++ (entry 0xffffffff 0 0 0 ++ d)))
-  unfolding bytes packers
+  unfolding words aplx-pack-group.image
   put-packs = ap (λ r. packedAs aplxImage r 65536) put-reads ∙ simp (append-nil d, e)
 
   put-size : length (imageOf (packAplx (putPlan d) 65536)) ≡ 80
-  unfolding bytes packers
+  unfolding words aplx-pack-group.image
   put-size = ap (λ p. length (imageOf p)) put-packs ∙ simp e
 
 -- ---- the table
 pub table : Table
-unfolding maps bytes packers sroms aplxs packets
+unfolding words mapOf dump map-group.maps srom-group.load aplx-group.load scp-group.answers srom-pack-group.image aplx-pack-group.image
 table = record {
   dump-loads = slice-load dump;
   dump-count = refl;

@@ -1,0 +1,15 @@
+-- Groups of definitions that computed examples open together: `unfolding NAME` opens all in the line under NAME. Not needed for belief.
+use Rattle.words.specs.Open.{bytes, stores}
+use Rattle.memory_map.specs.Open.{lookups}
+use Rattle.plan.specs.Plan.{judgeRun, judgeFill, judgeData, judgePut, judgeKind, judgeAt, pieceAt, readPieces, readPlan}
+use Rattle.plan.specs.Meaning.{permit, effect, effects, stretch, finish, meaning}
+
+-- the reader of plans
+unfoldable pub reader : Unit {0}
+unfolding bytes readPlan readPieces pieceAt judgeAt judgeKind judgePut judgeData judgeFill judgeRun
+reader = tt
+
+-- what a plan means
+unfoldable pub meanings : Unit {0}
+unfolding stores lookups meaning finish stretch effects effect permit
+meanings = tt
