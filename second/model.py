@@ -1,6 +1,6 @@
 """An independent second program: the rules of paper 01 in Python, written from the paper and not from the specs.
 
-It makes the expected output of the program `cases` (see cases.py). Nothing of the product depends on it.
+It makes the expected output of the programs of cases (see cases.py). Nothing of the product depends on it.
 """
 
 
@@ -301,3 +301,39 @@ def pack_srom(plan, output):
         return 'refused %d at %d' % (r.number, r.place)
     output[:len(image)] = image
     return 'packed %d' % len(image)
+
+
+def pack_aplx(plan, output):
+    """The answer as text; the image at the output's front."""
+    try:
+        pieces = read_plan(plan, 32)
+        entries, data = bytearray(), bytearray()
+        for index, piece in enumerate(pieces):
+            # the data of the puts begins behind the end entry
+            behind = 16 * (len(pieces) + 1) + len(data) - 16 * index
+            if piece[0] == 'put':
+                words = 2, piece[1], behind, len(piece[2])
+                data += piece[2]
+            elif piece[0] == 'fill':
+                words = 3, piece[1], len(piece[2]), int.from_bytes(piece[2][:4], 'little')
+            else:
+                words = 4, piece[1], 0, 0
+            entries += b''.join(word.to_bytes(4, 'little') for word in words)
+        image = entries + b'\xff' * 4 + bytes(12) + data
+        if len(image) > len(output):
+            raise Refused(10, len(pieces))
+    except Refused as r:
+        return 'refused %d at %d' % (r.number, r.place)
+    output[:len(image)] = image
+    return 'packed %d' % len(image)
+
+
+def plan_to_aplx(plan):
+    """What the program writes for what it reads."""
+    if len(plan) > 32768:
+        return b'refused 11 at 0\n'
+    output = bytearray(65536)
+    answer = pack_aplx(plan, output)
+    if answer.startswith('refused'):
+        return answer.encode() + b'\n'
+    return bytes(output[:int(answer.split()[1])])
