@@ -1,17 +1,25 @@
 #!/usr/bin/env python3
-"""Prints what the program `cases` must write, by the rules in model.py.
+"""What each program of cases must write, by the rules in model.py. The inputs are read out of the programs' source.
 
-second/compare holds crates/cases/stdout to it.
+cases.py write: stores it as crates/NAME/stdout.
+cases.py: fails where a stored file is another.
 """
 import re
+import sys
 import pathlib
-from model import Region, add, sound, permitted, run_kind, srom_load, aplx_load, scp_answer, pack_srom
+from model import (Region, Refused, add, sound, permitted, run_kind, srom_load, aplx_load, scp_answer,
+                   read_plan, pack_srom, pack_aplx)
 
-SOURCE = pathlib.Path(__file__).resolve().parent.parent / 'crates' / 'cases' / 'src'
+CRATES = pathlib.Path(__file__).resolve().parent.parent / 'crates'
+lines = []
 
 
 def out(line):
-    print(line)
+    lines.append(line)
+
+
+def source(program, name='main'):
+    return (CRATES / program / 'src' / (name + '.rt')).read_text()
 
 
 def verdict(taken):
@@ -22,7 +30,7 @@ def verdict(taken):
 
 def map_cases():
     out('empty map: ' + ('sound' if sound([], 0) else 'not sound'))
-    text = (SOURCE / 'map_cases.rt').read_text()
+    text = source('map_cases')
     for kind, label, base, length, place in re.findall(r'    (alone|beside)\(b"([^"]*)", (\d+), (\d+), (\d+)\);', text):
         base, length, place = int(base), int(length), int(place)
         if kind == 'alone':
@@ -60,7 +68,7 @@ def literal(text):
 
 
 def srom_cases():
-    text = (SOURCE / 'srom_cases.rt').read_text()
+    text = source('srom_cases')
     regions = [Region(0xf5007fe0, 32, 0, 'rw'), Region(0x7fe0, 32, 32, 'rx')]
     named = {n: literal(v) for n, v in re.findall(r'let (\w+) =\s*b"((?:\\x[0-9a-f]{2})*)";', text)}
     for label, rom, offset in re.findall(r'case\(\s*b"([^"]*)",\s*(b"[^"]*"|\w+),\s*(\d+),?\s*\);', text):
@@ -83,7 +91,7 @@ def words_at(memory, at, words):
 
 
 def aplx_cases():
-    text = (SOURCE / 'aplx_cases.rt').read_text()
+    text = source('aplx_cases')
     regions = [Region(4096, 256, 0, 'rwx'), Region(8192, 64, 256, 'r')]
     for label, at, words, header in re.findall(r'case\(\s*b"([^"]*)",\s*(\d+),\s*&\[([^\]]*)\],\s*(\d+),?\s*\);', text):
         memory = bytearray([7] * 320)
@@ -102,7 +110,7 @@ def aplx_cases():
 # ---- SCP
 
 def scp_cases():
-    text = (SOURCE / 'scp_cases.rt').read_text()
+    text = source('scp_cases')
     regions = [Region(4096, 256, 0, 'rwx'), Region(8192, 64, 256, 'r')]
     identity = (258, 3, 4, 129, 84281096)
     memory = bytearray([7] * 320)
@@ -119,16 +127,44 @@ def scp_cases():
 
 # ---- plans
 
+def read(plan):
+    try:
+        return '%d pieces' % len(read_plan(plan, 1))
+    except Refused as r:
+        return 'refused %d at %d' % (r.number, r.place)
+
+
 def plan_cases():
-    text = (SOURCE / 'plan_cases.rt').read_text()
-    for label, plan in re.findall(r'case\(\s*b"([^"]*: )",\s*(b"[^"]*"),?\s*\);', text):
+    for label, plan in re.findall(r'case\(\s*b"([^"]*: )",\s*(b"[^"]*"),?\s*\);', source('plan_cases', 'to_srom')):
         output = bytearray([0xee] * 64)
         out(label + pack_srom(literal(plan), output))
         out(output.hex())
+    for label, size, plan in re.findall(r'case\(\s*b"([^"]*: )",\s*(\d+),\s*(b"[^"]*"),?\s*\);', source('plan_cases', 'to_aplx')):
+        output = bytearray([0xee] * int(size))
+        out(label + pack_aplx(literal(plan), output))
+        out((output + bytes([0xee] * (128 - int(size)))).hex())
+    for kind, label, count in re.findall(r'    (read|to_srom|to_aplx)\(b"([^"]*)", (\d+)\);', source('plan_cases', 'counts')):
+        plan = bytearray(1056)
+        words_at(plan, 0, [int(count), 16])
+        for k in range(int(count)):
+            words_at(plan, 16 + 16 * k, [3, 4 * k])
+        output = bytearray([0xee] * 1040)
+        if kind == 'read':
+            out(label + read(plan))
+        else:
+            out(label + (pack_srom if kind == 'to_srom' else pack_aplx)(plan, output))
+            out(output.hex())
 
 
-map_cases()
-srom_cases()
-aplx_cases()
-scp_cases()
-plan_cases()
+different = 0
+for program in map_cases, srom_cases, aplx_cases, scp_cases, plan_cases:
+    lines.clear()
+    program()
+    path = CRATES / program.__name__ / 'stdout'
+    expected = '\n'.join(lines) + '\n'
+    if sys.argv[1:] == ['write']:
+        path.write_text(expected)
+    elif path.read_text() != expected:
+        print('%s: not what the second program writes' % path)
+        different = 1
+sys.exit(different)

@@ -1,6 +1,6 @@
 """An independent second program: the rules of paper 01 in Python, written from the paper and not from the specs.
 
-It makes the expected output of the program `cases` (see cases.py). Nothing of the product depends on it.
+It makes the expected output of the programs of cases (see cases.py). Nothing of the product depends on it.
 """
 
 

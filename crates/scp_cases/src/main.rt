@@ -1,8 +1,36 @@
-// The SCP answerer: packets in a row over one memory of 320 bytes of 7, mapped as for APLX. The output is 272 bytes of 0xee before each.
-use crate::tell;
+// The weighed cases of the SCP answerer, run and compared with the stored output: packets in a row over one memory.
+// Memory is 320 bytes of 7: 256 bytes at address 4096 with every right, then 64 bytes at 8192 to read. The output is 272 bytes of 0xee before each.
 use memory_map::map::Map;
+use memory_map::region::Region;
+use memory_map::region::Rights;
 use scp::answer::Identity;
-use scp::answer::Reply;
+
+fn two_regions() -> Map {
+    let every = Rights {
+        read: true,
+        write: true,
+        run: true,
+    };
+    let fixed = Rights {
+        read: true,
+        write: false,
+        run: false,
+    };
+    let a = Map::empty().add(Region {
+        base: 4096,
+        length: 256,
+        place: 0,
+        rights: every,
+    });
+    let one = a.map;
+    let b = one.add(Region {
+        base: 8192,
+        length: 64,
+        place: 256,
+        rights: fixed,
+    });
+    b.map
+}
 
 fn identity() -> Identity {
     Identity {
@@ -198,8 +226,8 @@ fn refusals(map: Map) {
     tell::reply(second);
 }
 
-pub(crate) fn run() {
-    let map = crate::aplx_cases::two_regions();
+fn main() {
+    let map = two_regions();
     let mut memory = [7u8; 320];
     transfers_one(map, &mut memory);
     transfers_two(map, &mut memory);

@@ -1,10 +1,10 @@
--- `cases::aplx_cases::place_fills` is safe and ends: memory keeps its length.
+-- `aplx_cases::place_fills` is safe and ends: memory keeps its length.
 use borrow.Author.Needs.{needs}
 use Prim.Native.Nat.{_-_}
 use mathlib.Core.Path.{_≡_}
 use lib.ListN.{length}
-use Rattle.cases.proofs.aplx_cases.place_fills.Statement.{statement}
-use Rattle.cases.proofs.aplx_cases.place_fills.Tie as tie
+use Rattle.aplx_cases.proofs.place_fills.Statement.{statement}
+use Rattle.aplx_cases.proofs.place_fills.Tie as tie
 
 abbrev Inv-loop : tie.InvT-loop
 Inv-loop memory₀ count i₀ at₀ t5 t6 memory i at = length memory ≡ length memory₀

@@ -1,19 +1,10 @@
-// The plan reader and the SROM packer. The output is 64 bytes of 0xee.
-use crate::tell;
-use plan::packed::Answer;
+// The SROM packer. The output is 64 bytes of 0xee.
 
 // The answer, and the output it leaves.
 fn case(name: &[u8], plan: &[u8]) {
     let mut output = [0xeeu8; 64];
     tell::text(name);
-    match srom_pack::pack::pack(plan, &mut output) {
-        Answer::Packed { size } => {
-            tell::text(b"packed ");
-            tell::number(size as u64);
-            tell::text(b"\n");
-        }
-        Answer::Refused(r) => tell::refusal(r),
-    }
+    tell::packed(srom_pack::pack::pack(plan, &mut output));
     tell::bytes(&output);
 }
 

@@ -1,5 +1,5 @@
-// The serial ROM loader. Memory is 64 bytes of 7: 32 bytes at 0xf5007fe0 to write, then 32 bytes at 0x7fe0 to run.
-use crate::tell;
+// The weighed cases of the serial ROM loader, run and compared with the stored output.
+// Memory is 64 bytes of 7: 32 bytes at 0xf5007fe0 to write, then 32 bytes at 0x7fe0 to run.
 use memory_map::map::Map;
 use memory_map::region::Region;
 use memory_map::region::Rights;
@@ -109,7 +109,7 @@ fn no_map() {
     tell::answer(answer);
 }
 
-pub(crate) fn run() {
+fn main() {
     dumps();
     ends();
     refusals();

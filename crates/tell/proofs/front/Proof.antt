@@ -1,8 +1,8 @@
--- `cases::tell::front` is safe and ends: a turn for each byte.
+-- `tell::front` is safe and ends: a turn for each byte.
 use borrow.Author.Needs.{needs}
 use Prim.Native.Nat.{_-_}
-use Rattle.cases.proofs.tell.front.Statement.{statement}
-use Rattle.cases.proofs.tell.front.Tie as tie
+use Rattle.tell.proofs.front.Statement.{statement}
+use Rattle.tell.proofs.front.Tie as tie
 
 abbrev Inv-loop : tie.InvT-loop
 Inv-loop s n i₀ t6 i = Unit {0}

@@ -1,8 +1,8 @@
--- `cases::map_cases::nine_regions` is safe and ends: nine turns, 32 addresses each.
+-- `map_cases::nine_regions` is safe and ends: nine turns, 32 addresses each.
 use borrow.Author.Needs.{needs}
 use Prim.Native.Nat.{_-_}
-use Rattle.cases.proofs.map_cases.nine_regions.Statement.{statement}
-use Rattle.cases.proofs.map_cases.nine_regions.Tie as tie
+use Rattle.map_cases.proofs.nine_regions.Statement.{statement}
+use Rattle.map_cases.proofs.nine_regions.Tie as tie
 
 abbrev Inv-loop : tie.InvT-loop
 Inv-loop m₀ first₀ m first = Unit {0}

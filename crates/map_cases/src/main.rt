@@ -1,5 +1,4 @@
-// The memory map.
-use crate::tell;
+// The weighed cases of the memory map, run and compared with the stored output.
 use memory_map::map::Map;
 use memory_map::region::Region;
 use memory_map::region::Right;
@@ -131,7 +130,7 @@ fn entries() {
     tell::run_entry(m.run_entry(4096));
 }
 
-pub(crate) fn run() {
+fn main() {
     tell::text(b"empty map: ");
     tell::sound(Map::empty(), 0);
     rules();

@@ -1,4 +1,4 @@
-// Answers as lines of text.
+// Answers as lines of text on standard output, for the programs of cases. No function answers or changes anything.
 use libc::STDOUT_FILENO;
 use memory_map::answer::Answer;
 use memory_map::answer::Entry;
@@ -8,13 +8,15 @@ use memory_map::map::Found;
 use memory_map::map::Map;
 use memory_map::map::RunEntry;
 use memory_map::map::Verdict;
+use plan::packed;
+use plan::read;
 use scp::answer::Reply;
 
-pub(crate) fn text(t: &[u8]) {
+pub fn text(t: &[u8]) {
     io::write_all(STDOUT_FILENO, t);
 }
 
-pub(crate) fn number(n: u64) {
+pub fn number(n: u64) {
     io::print_decimal(STDOUT_FILENO, n);
 }
 
@@ -25,7 +27,7 @@ fn digit(n: u8) -> u8 {
 }
 
 // The first bytes in hex, on one line, as many as there are.
-pub(crate) fn front(s: &[u8], n: usize) {
+pub fn front(s: &[u8], n: usize) {
     let mut i: usize = 0;
     while i < n {
         if i < s.len() {
@@ -38,11 +40,11 @@ pub(crate) fn front(s: &[u8], n: usize) {
     text(b"\n");
 }
 
-pub(crate) fn bytes(s: &[u8]) {
+pub fn bytes(s: &[u8]) {
     front(s, s.len());
 }
 
-pub(crate) fn refusal(r: Refusal) {
+pub fn refusal(r: Refusal) {
     text(b"refused ");
     number(r.number as u64);
     text(b" at ");
@@ -50,7 +52,7 @@ pub(crate) fn refusal(r: Refusal) {
     text(b"\n");
 }
 
-pub(crate) fn verdict(v: Verdict) {
+pub fn verdict(v: Verdict) {
     match v {
         Verdict::Taken => text(b"taken\n"),
         Verdict::Refused(r) => refusal(r),
@@ -63,7 +65,7 @@ fn refused_number(n: u32) {
     text(b"\n");
 }
 
-pub(crate) fn found(f: Found) {
+pub fn found(f: Found) {
     match f {
         Found::At(p) => {
             text(b"at ");
@@ -87,7 +89,7 @@ fn entry(e: Entry) {
     }
 }
 
-pub(crate) fn run_entry(e: RunEntry) {
+pub fn run_entry(e: RunEntry) {
     match e {
         RunEntry::Legal(e) => {
             entry(e);
@@ -97,7 +99,7 @@ pub(crate) fn run_entry(e: RunEntry) {
     }
 }
 
-pub(crate) fn sound(m: Map, size: usize) {
+pub fn sound(m: Map, size: usize) {
     if m.sound(size) {
         text(b"sound\n");
     } else {
@@ -105,7 +107,7 @@ pub(crate) fn sound(m: Map, size: usize) {
     }
 }
 
-pub(crate) fn regions(m: Map) {
+pub fn regions(m: Map) {
     number(m.count as u64);
     text(b" regions\n");
 }
@@ -131,7 +133,7 @@ fn stop(s: Stop) {
     }
 }
 
-pub(crate) fn answer(a: Answer) {
+pub fn answer(a: Answer) {
     match a {
         Answer::Refused(r) => refusal(r),
         Answer::Accepted {
@@ -149,7 +151,7 @@ pub(crate) fn answer(a: Answer) {
     }
 }
 
-pub(crate) fn reply(r: Reply) {
+pub fn reply(r: Reply) {
     match r {
         Reply::Refused(r) => refusal(r),
         Reply::Silent => text(b"no response\n"),
@@ -168,6 +170,27 @@ pub(crate) fn reply(r: Reply) {
             entry(e);
             text(b", resume ");
             number(resume as u64);
+            text(b"\n");
+        }
+    }
+}
+
+pub fn pieces(a: read::Answer) {
+    match a {
+        read::Answer::Refused(r) => refusal(r),
+        read::Answer::Pieces(n) => {
+            number(n as u64);
+            text(b" pieces\n");
+        }
+    }
+}
+
+pub fn packed(a: packed::Answer) {
+    match a {
+        packed::Answer::Refused(r) => refusal(r),
+        packed::Answer::Packed { size } => {
+            text(b"packed ");
+            number(size as u64);
             text(b"\n");
         }
     }

@@ -1,10 +1,10 @@
--- `cases::aplx_cases::place_words` is safe and ends: memory keeps its length.
+-- `aplx_cases::place_words` is safe and ends: memory keeps its length.
 use borrow.Author.Needs.{needs}
 use Prim.Native.Nat.{_-_}
 use mathlib.Core.Path.{_≡_}
 use lib.ListN.{length}
-use Rattle.cases.proofs.aplx_cases.place_words.Statement.{statement}
-use Rattle.cases.proofs.aplx_cases.place_words.Tie as tie
+use Rattle.aplx_cases.proofs.place_words.Statement.{statement}
+use Rattle.aplx_cases.proofs.place_words.Tie as tie
 
 abbrev Inv-loop : tie.InvT-loop
 Inv-loop memory₀ at words i₀ next₀ memory i next = length memory ≡ length memory₀

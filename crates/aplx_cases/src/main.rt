@@ -1,10 +1,10 @@
-// The APLX loader. Memory is 320 bytes of 7: 256 bytes at address 4096 with every right, then 64 bytes at 8192 to read.
-use crate::tell;
+// The weighed cases of the APLX loader, run and compared with the stored output.
+// Memory is 320 bytes of 7: 256 bytes at address 4096 with every right, then 64 bytes at 8192 to read.
 use memory_map::map::Map;
 use memory_map::region::Region;
 use memory_map::region::Rights;
 
-pub(crate) fn two_regions() -> Map {
+fn two_regions() -> Map {
     let every = Rights {
         read: true,
         write: true,
@@ -334,7 +334,7 @@ fn no_map() {
     tell::answer(answer);
 }
 
-pub(crate) fn run() {
+fn main() {
     lengths();
     copies();
     stops();
