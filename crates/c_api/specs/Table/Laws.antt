@@ -1,0 +1,97 @@
+-- Laws of tables: which map a table is, which table takes a region, and what the code's words make of it.
+use mathlib.Core.Path.{_≡_, refl, ap, sym, _∙_}
+use mathlib.Core.Bool.{Bool, true, false}
+use mathlib.Core.List.{List, _++_, append-assoc}
+use Prim.Native.Nat.{ℕ, _+_, _*_, _%_, _≤_, _<_}
+use native.Mathlib.Omega.{arith}
+use lib.Dec.{eqb, leb}
+use lib.ListN.{length, length-append}
+use borrow.Author.Tests.{eq-eqb, ne-eqb, eqb-true, eqb-false, leb-true}
+use Rattle.words.specs.Choice.Laws.{both}
+use Rattle.words.specs.Bytes.{littleEndian}
+use Rattle.words.specs.Bytes.Laws.{length-littleEndian}
+use Rattle.words.specs.Store.{store, storeIfFits}
+use Rattle.words.specs.Store.Laws.{length-store, store-fits, store-behind}
+use Rattle.memory_map.specs.declared.region.Region.{Region}
+use Rattle.memory_map.specs.declared.map.Map.{Map}
+use Rattle.memory_map.specs.declared.map.Addition as code-addition
+use Rattle.memory_map.specs.Map.{Addition, verdictOf, additionOf, taken, regionsOf, allKeepRules, add, extended, wellFormed, sound}
+use Rattle.c_api.specs.Table.{regionOf, regionsIn, countIn, mapOf, regionWords, tableWith, verdictOn}
+
+-- ---- the map of a table
+pub map-of-table : (t : List ℕ) → length t ≡ 132 → mapOf t ≡ record { regions = regionsIn 8 t 4; count = countIn t }
+unfolding mapOf
+map-of-table t h = simp (eq-eqb (length t) 132 h)
+
+pub map-of-other : (t : List ℕ) → (length t ≡ 132 → ⊥) → mapOf t .count ≡ 9
+unfolding mapOf
+map-of-other t h = simp (ne-eqb (length t) 132 h)
+
+-- "A table that has not exactly 132 bytes is no sound map"
+pub other-unsound : (t : List ℕ) → (length t ≡ 132 → ⊥) → (n : ℕ) → sound (mapOf t) n ≡ false
+unfolding sound wellFormed
+other-unsound t h n = simp (map-of-other t h)
+
+-- a map with a region more has at most eight
+taken-well-formed : (m : Map) (g : Region) → add m g .verdict ≡ taken → wellFormed (extended m g) ≡ true
+unfolding add
+taken-well-formed m g e = go (wellFormed (extended m g)) refl
+  where
+    go : (b : Bool) → wellFormed (extended m g) ≡ b → wellFormed (extended m g) ≡ true
+    go true q = q
+    go false q = let z : _≡_ {A = ℕ} 0 1 = cc (simp q at e) in absurd (omega arith)
+
+taken-count : (m : Map) (g : Region) → add m g .verdict ≡ taken → m .count < 8
+unfolding wellFormed extended
+taken-count m g e =
+    omega (arith, leb-true (m .count + 1) 8 (both (leb (m .count + 1) 8) (allKeepRules (regionsOf (extended m g))) (taken-well-formed m g e) .0))
+
+-- a table that took a region had room for it
+pub record Room (t : List ℕ) : Type 0 where
+  pub whole : length t ≡ 132
+  pub below : countIn t < 8
+
+pub room : (t : List ℕ) (g : Region) → add (mapOf t) g .verdict ≡ taken → Room t
+room t g e = go (eqb (length t) 132) refl
+  where
+    go : (b : Bool) → eqb (length t) 132 ≡ b → Room t
+    go true q =
+        let w = eqb-true _ _ q in
+        record { whole = w; below = omega (arith, taken-count (mapOf t) g e, ap (λ (m : Map). m .count) (map-of-table t w)) }
+    go false q = absurd (omega (arith, taken-count (mapOf t) g e, map-of-other t (eqb-false _ _ q)))
+
+-- ---- the code's answer
+pub told : (t : List ℕ) (b n p w : ℕ) (a : code-addition.Addition) → additionOf a ≡ add (mapOf t) (regionOf b n p w)
+    → verdictOn t b n p w ≡ verdictOf (a .verdict)
+unfolding verdictOn
+told t b n p w a e = sym (ap (λ (x : Addition). x .verdict) e)
+
+-- four words that the code puts one behind the other are one store
+module _ (t : List ℕ) (i : ℕ) (a b c d : List ℕ) (la : length a ≡ 4) (lb : length b ≡ 4) (lc : length c ≡ 4) (ld : length d ≡ 4) (fits : i + 16 ≤ length t) where
+  four-words : (u v x y : List ℕ) → u ≡ storeIfFits t i a → v ≡ storeIfFits u (i + 4) b → x ≡ storeIfFits v (i + 8) c
+      → y ≡ storeIfFits x (i + 12) d → y ≡ store t i (a ++ (b ++ (c ++ d)))
+  four-words u v x y e f g h =
+      let lab : length (a ++ b) ≡ 8 = simp (length-append, la, lb) in
+      let labc : length ((a ++ b) ++ c) ≡ 12 = simp (length-append, la, lb, lc) in
+      let one : u ≡ store t i a = e ∙ store-fits t i a (omega arith) in
+      let two = store-behind t i a b (i + 4) u v (omega arith) (omega arith) one f in
+      let three = store-behind t i (a ++ b) c (i + 8) v x (omega arith) (omega arith) two g in
+      let four = store-behind t i ((a ++ b) ++ c) d (i + 12) x y (omega arith) (omega arith) three h in
+      four ∙ simp append-assoc
+
+-- a region's words, and then the count
+module _ (t : List ℕ) (b n p w k : ℕ) (r : Room t) (is-count : k ≡ countIn t) where
+  pub words-put : {u v x y z : List ℕ} → u ≡ storeIfFits t (4 + 16 * k) (littleEndian 4 b)
+      → v ≡ storeIfFits u (4 + 16 * k + 4) (littleEndian 4 n)
+      → x ≡ storeIfFits v (4 + 16 * k + 8) (littleEndian 4 p)
+      → y ≡ storeIfFits x (4 + 16 * k + 12) (littleEndian 4 (w % 8))
+      → z ≡ storeIfFits y 0 (littleEndian 4 (k + 1)) → z ≡ tableWith t (regionWords b n p w)
+  unfolding tableWith regionWords
+  words-put {u} {v} {x} {y} {z} d e f g h =
+      let l = length-littleEndian 4 in
+      let fits : 4 + 16 * k + 16 ≤ length t = omega (arith, r .whole, r .below) in
+      let lw : length (regionWords b n p w) ≡ 16 = simp (length-append, length-littleEndian) in
+      let q : y ≡ store t (4 + 16 * k) (regionWords b n p w) =
+      four-words t (4 + 16 * k) (littleEndian 4 b) (littleEndian 4 n) (littleEndian 4 p) (littleEndian 4 (w % 8)) (l b) (l n) (l p) (l (w % 8)) fits u v x y d e f g in
+      let ly : length y ≡ length t = ap length q ∙ length-store t (4 + 16 * k) (regionWords b n p w) (omega arith) in
+      h ∙ store-fits y 0 (littleEndian 4 (k + 1)) (omega (arith, l (k + 1))) ∙ rw (q, is-count)

@@ -1,0 +1,107 @@
+// A map as a table of 132 bytes.
+ghost use mathlib.Core.Path.{_≡_};
+ghost use Prim.Native.Nat.{_≤_, _<_};
+ghost use lib.ListN as list;
+ghost use Rattle.c_api.specs.Table.{rightsOf, regionOf, regionIn, countIn, mapOf, regionWords, tableWith, verdictNumber, verdictOn, tableAfter};
+use memory_map::map::Map;
+use memory_map::map::Verdict;
+use memory_map::region::Region;
+use memory_map::region::Rights;
+use words::read::le_word_at;
+
+// 1 read, 2 write, 4 run.
+fn rights_of(bits: u32) -> Rights
+    ensures { λ r. ⌜ r ≡ rightsOf bits ⌝ }
+{
+    Rights {
+        read: bits % 2 == 1,
+        write: bits / 2 % 2 == 1,
+        run: bits / 4 % 2 == 1,
+    }
+}
+
+fn region_of(base: u32, length: u32, place: u32, bits: u32) -> Region
+    ensures { λ r. ⌜ r ≡ regionOf base length place bits ⌝ }
+{
+    let rights = rights_of(bits);
+    Region {
+        base,
+        length,
+        place,
+        rights,
+    }
+}
+
+// The region whose four words stand at an offset.
+fn region_in(table: &[u8], at: usize) -> Region
+    requires { ⌜ at ≤ 132 ⌝ }
+    ensures { λ r. ⌜ r ≡ regionIn (now (table .entry)) at ⌝ }
+{
+    let base = le_word_at(table, at);
+    let length = le_word_at(table, at + 4);
+    let place = le_word_at(table, at + 8);
+    region_of(base, length, place, le_word_at(table, at + 12))
+}
+
+// The map that a table is; one of another length is no sound map.
+pub(crate) fn map_of(table: &[u8]) -> Map
+    ensures { λ r. ⌜ r ≡ mapOf (now (table .entry)) ⌝ }
+{
+    if table.len() != 132 {
+        let mut none = Map::empty();
+        none.count = 9;
+        return none;
+    }
+    let a = region_in(table, 4);
+    let b = region_in(table, 20);
+    let c = region_in(table, 36);
+    let d = region_in(table, 52);
+    let e = region_in(table, 68);
+    let f = region_in(table, 84);
+    let g = region_in(table, 100);
+    let h = region_in(table, 116);
+    let count = le_word_at(table, 0) as usize;
+    Map {
+        regions: [a, b, c, d, e, f, g, h],
+        count,
+    }
+}
+
+// The four words of a region behind those of the table, and the count one higher.
+fn put_region(table: &mut [u8], base: u32, length: u32, place: u32, bits: u32)
+    requires { ⌜ (list.length (now table) ≡ 132) × (countIn (now table) < 8) ⌝ }
+    ensures { λ _. ⌜ now (table .exit) ≡ tableWith (now (table .entry)) (regionWords base length place bits) ⌝ }
+{
+    let count = le_word_at(table, 0);
+    let at = 4 + 16 * (count as usize);
+    words::put::le_word(table, at, base);
+    words::put::le_word(table, at + 4, length);
+    words::put::le_word(table, at + 8, place);
+    words::put::le_word(table, at + 12, bits % 8);
+    words::put::le_word(table, 0, count + 1);
+}
+
+// Adds a region at the map's end. A refused addition leaves the table as it was.
+#[no_mangle]
+pub extern "C" fn reidhintsje_map_add(
+    map: &mut [u8],
+    base: u32,
+    length: u32,
+    place: u32,
+    rights: u32,
+) -> u32
+    ensures { λ r. ⌜ r ≡ verdictNumber (verdictOn (now (map .entry)) base length place rights) ⌝ }
+    ensures { λ _. ⌜ now (map .exit) ≡ tableAfter (now (map .entry)) base length place rights ⌝ }
+{
+    let regions = map_of(map);
+    let region = region_of(base, length, place, rights);
+    let addition = regions.add(region);
+    let verdict = addition.verdict;
+    match verdict {
+        Verdict::Taken => {
+            put_region(map, base, length, place, rights);
+            0
+        }
+        Verdict::Refused(refusal) => refusal.number,
+    }
+}
