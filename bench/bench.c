@@ -1,0 +1,198 @@
+/* The library against plain C that does the same, and against memcpy and memset, in one run. Prints ratios of the least times.
+ * Every row first shows that both leave the same bytes and outcomes. */
+#include "../include/reidhintsje.h"
+#include "plain.h"
+
+#include <stdio.h>
+#include <stdlib.h>
+#include <string.h>
+#include <time.h>
+
+enum { KIB = 1024, MIB = 1024 * 1024, ROUNDS = 9 };
+#define SIZE ((size_t)33 * MIB)
+
+static uint8_t map[132], *ours, *theirs, *rom, *plan, *out1, *out2, packet[272], reply1[272], reply2[272];
+static size_t rom_length, plan_length, packet_length;
+static uint64_t outcome1[8], outcome2[8];
+static size_t limit_length;
+
+static double now(void)
+{
+    struct timespec t;
+    clock_gettime(CLOCK_MONOTONIC, &t);
+    return t.tv_sec + 1e-9 * t.tv_nsec;
+}
+
+/* ---- what is timed */
+static void library_aplx(void) { reidhintsje_aplx_load(map, 132, ours, SIZE, 0x1000, outcome1); }
+static void plain_aplx(void) { plain_aplx_load(map, 132, theirs, SIZE, 0x1000, outcome2); }
+static void library_srom(void) { reidhintsje_srom_load(map, 132, ours, SIZE, rom, rom_length, 0, outcome1); }
+static void plain_srom(void) { plain_srom_load(map, 132, theirs, SIZE, rom, rom_length, 0, outcome2); }
+static void library_pack_srom(void) { reidhintsje_pack_srom(plan, plan_length, out1, 5 * MIB, outcome1); }
+static void plain_pack_srom_(void) { plain_pack_srom(plan, plan_length, out2, 5 * MIB, outcome2); }
+static void library_pack_aplx(void) { reidhintsje_pack_aplx(plan, plan_length, out1, 5 * MIB, outcome1); }
+static void plain_pack_aplx_(void) { plain_pack_aplx(plan, plan_length, out2, 5 * MIB, outcome2); }
+static void library_scp(void) { reidhintsje_scp_answer(map, 132, ours, SIZE, 0, 0, 0, 0, 0, packet, packet_length, reply1, 272, outcome1); }
+static void plain_scp(void) { plain_scp_answer(map, 132, theirs, SIZE, packet, packet_length, reply2, 272, outcome2); }
+static void limit_copy(void) { memcpy(theirs + 17 * MIB, theirs + MIB, limit_length); }
+static void limit_fill(void) { memset(theirs + 17 * MIB, 5, limit_length); }
+
+static double least(void (*act)(void), double so_far)
+{
+    long turns = 1;
+    double took;
+    for (;;) {
+        double began = now();
+        for (long i = 0; i < turns; i++) act();
+        took = now() - began;
+        if (took > 0.01) break;
+        turns *= took > 0.001 ? 2 + (long)(0.01 / took) : 8;
+    }
+    took /= turns;
+    return took < so_far ? took : so_far;
+}
+
+static int failed;
+
+static void row(const char *name, void (*library)(void), void (*plain)(void), void (*limit)(void), const char *limit_name)
+{
+    memcpy(theirs, ours, SIZE);
+    memset(out1, 7, 5 * MIB);
+    memset(out2, 7, 5 * MIB);
+    library();
+    plain();
+    if (memcmp(ours, theirs, SIZE) || memcmp(outcome1, outcome2, sizeof outcome1) || memcmp(out1, out2, 5 * MIB)
+        || memcmp(reply1, reply2, 272) || outcome1[0]) {
+        printf("%-44s the two differ, or were refused: %llu %llu\n", name, (unsigned long long)outcome1[0], (unsigned long long)outcome2[0]);
+        failed = 1;
+        return;
+    }
+    double a = 1e9, b = 1e9, c = 1e9;
+    for (int i = 0; i < ROUNDS; i++) {
+        a = least(library, a);
+        b = least(plain, b);
+        if (limit) c = least(limit, c);
+    }
+    printf("%-44s %10.2f us   %5.2f of plain C", name, a * 1e6, a / b);
+    if (limit) printf("   %5.2f of %s", a / c, limit_name);
+    printf("\n");
+}
+
+/* ---- inputs */
+static void word(uint8_t *p, uint32_t w) { p[0] = w; p[1] = w >> 8; p[2] = w >> 16; p[3] = w >> 24; }
+
+static void entry(size_t at, uint32_t c, uint32_t x, uint32_t y, uint32_t z)
+{
+    word(ours + at, c);
+    word(ours + at + 4, x);
+    word(ours + at + 8, y);
+    word(ours + at + 12, z);
+}
+
+static void entries(uint32_t c, uint32_t x, uint32_t y, uint32_t z)
+{
+    entry(0, c, x, y, z);
+    entry(16, 0xffffffff, 0, 0, 0);
+    limit_length = c == 3 ? y : z;
+}
+
+/* blocks of 65,532 words, and one for the rest */
+static void make_rom(size_t bytes)
+{
+    size_t at = 0;
+    uint32_t address = 0x20000000;
+    while (bytes) {
+        size_t n = bytes > 262128 ? 262128 : bytes;
+        rom[at] = 0x3a;
+        rom[at + 1] = n / 4 >> 8;
+        rom[at + 2] = n / 4;
+        rom[at + 3] = address >> 24;
+        rom[at + 4] = address >> 16;
+        rom[at + 5] = address >> 8;
+        rom[at + 6] = address;
+        for (size_t k = 0; k < n; k++) rom[at + 7 + k] = k * 31 + 5;
+        at += 7 + n;
+        address += n;
+        bytes -= n;
+    }
+    rom[at] = 0xff;
+    rom_length = at + 1;
+}
+
+/* so many pieces of 64 KiB, puts or fills */
+static void make_plan(uint32_t count, uint32_t kind)
+{
+    word(plan, count);
+    word(plan + 4, 16);
+    word(plan + 8, 16 + 16 * count);
+    word(plan + 12, 64 * KIB);
+    for (uint32_t i = 0; i < count; i++) {
+        uint8_t *p = plan + 16 + 16 * i;
+        word(p, kind);
+        word(p + 4, 0x20000000 + 64 * KIB * i);
+        word(p + 8, 64 * KIB);
+        word(p + 12, kind == 1 ? 0 : 0x01020304);
+    }
+    for (size_t k = 0; k < 64 * KIB; k++) plan[16 + 16 * count + k] = k * 7 + 3;
+    plan_length = 16 + 16 * count + 64 * KIB;
+}
+
+static void make_packet(uint32_t command, uint32_t address, uint32_t length)
+{
+    word(packet, command | 0x00110000);
+    word(packet + 4, address);
+    word(packet + 8, length);
+    word(packet + 12, 2);
+    packet_length = command == 3 ? 16 + length : 16;
+}
+
+int main(void)
+{
+    ours = malloc(SIZE);
+    theirs = malloc(SIZE);
+    rom = malloc(5 * MIB);
+    plan = malloc(MIB);
+    out1 = malloc(5 * MIB);
+    out2 = malloc(5 * MIB);
+    if (!ours || !theirs || !rom || !plan || !out1 || !out2) return 2;
+    for (size_t i = 0; i < SIZE; i++) ours[i] = i * 13 + 1;
+    memset(reply1, 0, 272);
+    memset(reply2, 0, 272);
+    /* five small regions, the header's, and two of 16 MiB: the last is the eighth */
+    for (uint32_t i = 0; i < 5; i++)
+        if (reidhintsje_map_add(map, 132, 0x40000000 + 0x1000 * i, 256, 0x40000 + 0x1000 * i, 7)) return 2;
+    if (reidhintsje_map_add(map, 132, 0x1000, 4096, 0, 7)) return 2;
+    if (reidhintsje_map_add(map, 132, 0x10000000, 16 * MIB, MIB, 7)) return 2;
+    if (reidhintsje_map_add(map, 132, 0x20000000, 16 * MIB, 17 * MIB, 7)) return 2;
+
+    entries(1, 0x20000000, 0x10000000, 64 * KIB);
+    row("APLX copy of 64 KiB", library_aplx, plain_aplx, limit_copy, "memcpy");
+    entries(1, 0x20000000, 0x10000000, 16 * MIB);
+    row("APLX copy of 16 MiB", library_aplx, plain_aplx, limit_copy, "memcpy");
+    entries(1, 0x20000004, 0x20000000, 64 * KIB);
+    row("APLX copy of 64 KiB onto itself, up by 4", library_aplx, plain_aplx, 0, 0);
+    entries(3, 0x20000000, 64 * KIB, 0x01020304);
+    row("APLX fill of 64 KiB", library_aplx, plain_aplx, limit_fill, "memset");
+    entries(3, 0x20000000, 16 * MIB, 0x01020304);
+    row("APLX fill of 16 MiB", library_aplx, plain_aplx, limit_fill, "memset");
+    make_rom(4 * MIB);
+    limit_length = 4 * MIB;
+    row("SROM load of 4 MiB", library_srom, plain_srom, limit_copy, "memcpy");
+    limit_length = 64 * KIB;
+    make_plan(1, 1);
+    row("packing a put of 64 KiB as APLX", library_pack_aplx, plain_pack_aplx_, limit_copy, "memcpy");
+    row("packing a put of 64 KiB as SROM", library_pack_srom, plain_pack_srom_, limit_copy, "memcpy");
+    make_plan(1, 2);
+    row("packing a fill of 64 KiB as SROM", library_pack_srom, plain_pack_srom_, limit_fill, "memset");
+    limit_length = 4 * MIB;
+    make_plan(64, 1);
+    row("packing puts of 4 MiB as APLX", library_pack_aplx, plain_pack_aplx_, limit_copy, "memcpy");
+    row("packing puts of 4 MiB as SROM", library_pack_srom, plain_pack_srom_, limit_copy, "memcpy");
+    make_packet(2, 0x20000000, 256);
+    row("SCP READ of 256 bytes", library_scp, plain_scp, 0, 0);
+    make_packet(3, 0x20000000, 256);
+    row("SCP WRITE of 256 bytes", library_scp, plain_scp, 0, 0);
+    make_packet(2, 0x20000000, 4);
+    row("SCP READ of 4 bytes (map test and lookup)", library_scp, plain_scp, 0, 0);
+    return failed;
+}

@@ -1,0 +1,378 @@
+//! One input given to a library and to this second implementation: every number and every byte must be the same.
+//! Each buffer that the library is lent lies between guard bytes that must stay as they were.
+
+use std::hint::black_box;
+
+use crate::bytes::hex;
+use crate::generate::Case;
+use crate::interface::{load_numbers, load_of, map_of, Library, Outcome, Reference};
+use crate::outcome::{Answer, Refusal};
+use crate::pack;
+use crate::plan;
+use crate::random::Random;
+use crate::series::{self, Medium, Report, Step};
+use crate::tally::{load_kind, memory_kind, number_kind, reply_kind, taken_kind, Tally};
+
+const GUARD: usize = 64;
+
+/// The guard byte at an index.
+fn guard(index: usize) -> u8 {
+    (index as u8).wrapping_mul(37) ^ 0xa5
+}
+
+/// A lent buffer between guards.
+struct Guarded {
+    bytes: Vec<u8>,
+    start: usize,
+    length: usize,
+}
+
+impl Guarded {
+    /// The content begins at any alignment.
+    fn new(content: &[u8], random: &mut Random) -> Guarded {
+        let start = GUARD + random.below(16);
+        let mut bytes: Vec<u8> = (0..start).map(guard).collect();
+        bytes.extend(content);
+        let end = bytes.len();
+        bytes.extend((end..end + GUARD).map(guard));
+        Guarded { bytes, start, length: content.len() }
+    }
+
+    fn lent(&mut self) -> &mut [u8] {
+        &mut self.bytes[self.start..self.start + self.length]
+    }
+
+    fn read(&self) -> &[u8] {
+        &self.bytes[self.start..self.start + self.length]
+    }
+
+    /// An error where a guard was changed, or the content is not what it must be.
+    fn check(&self, name: &str, expected: &[u8]) -> Result<(), String> {
+        let bytes = black_box(&self.bytes);
+        let end = self.start + self.length;
+        let outside = (0..self.start).chain(end..end + GUARD);
+        for index in outside {
+            if bytes[index] != guard(index) {
+                let at = index as i64 - self.start as i64;
+                return Err(format!("a byte outside {name} was changed, at {at} of {}", self.length));
+            }
+        }
+        let content = &bytes[self.start..end];
+        if content == expected {
+            return Ok(());
+        }
+        let at = content.iter().zip(expected).position(|(got, want)| got != want).unwrap_or(0);
+        Err(format!(
+            "{name} differs at byte {at}: the library has {:02x}, the reference {:02x}\n\
+             library   {}\nreference {}",
+            content[at],
+            expected[at],
+            shown(content),
+            shown(expected)
+        ))
+    }
+}
+
+/// The lent outcome between guards. Before the call it holds what no call may leave there.
+struct Numbers {
+    all: [u64; 24],
+}
+
+const POISON: u64 = 0xdead_beef_0bad_cafe;
+
+impl Numbers {
+    fn new() -> Numbers {
+        Numbers { all: [POISON; 24] }
+    }
+
+    fn lent(&mut self) -> &mut Outcome {
+        (&mut self.all[8..16]).try_into().expect("eight numbers")
+    }
+
+    fn check(&self, number: u32, expected: &Outcome) -> Result<(), String> {
+        let all = black_box(&self.all);
+        if all[..8].iter().chain(&all[16..]).any(|n| *n != POISON) {
+            return Err("a number outside the outcome was changed".to_string());
+        }
+        if u64::from(number) != expected[0] || all[8..16] != expected[..] {
+            return Err(format!(
+                "the numbers differ\n  library   {number}: {:?}\n  reference {}: {expected:?}",
+                &all[8..16],
+                expected[0]
+            ));
+        }
+        Ok(())
+    }
+}
+
+/// Compares the library with the reference on one input. Answers how many calls were made, or the difference.
+pub fn compare(
+    case: &Case,
+    library: &dyn Library,
+    random: &mut Random,
+    tally: &mut Tally,
+) -> Result<u64, String> {
+    let mut expected: Outcome = [0; 8];
+    let mut numbers = Numbers::new();
+    match case {
+        Case::MapAdd { table, additions } => {
+            let mut lent = Guarded::new(table, random);
+            let mut own = table.clone();
+            for [base, length, place, rights] in additions.iter().copied() {
+                let got = library.map_add(lent.lent(), base, length, place, rights);
+                let want = Reference.map_add(&mut own, base, length, place, rights);
+                if got != want {
+                    return Err(format!("the numbers differ: library {got}, reference {want}"));
+                }
+                lent.check("the table", &own)?;
+                tally.count("map_add", number_kind(u64::from(want)));
+            }
+            return Ok(additions.len() as u64);
+        }
+        Case::SromLoad { table, memory, rom, offset } => {
+            let (map, slice) = (Guarded::new(table, random), Guarded::new(rom, random));
+            let mut lent = Guarded::new(memory, random);
+            let number =
+                library.srom_load(map.read(), lent.lent(), slice.read(), *offset, numbers.lent());
+            let mut own = memory.clone();
+            Reference.srom_load(table, &mut own, rom, *offset, &mut expected);
+            numbers.check(number, &expected)?;
+            lent.check("memory", &own)?;
+            map.check("the table", table)?;
+            slice.check("the slice", rom)?;
+            count_load(tally, "srom_load", &expected, memory);
+        }
+        Case::AplxLoad { table, memory, header } => {
+            let map = Guarded::new(table, random);
+            let mut lent = Guarded::new(memory, random);
+            let number = library.aplx_load(map.read(), lent.lent(), *header, numbers.lent());
+            let mut own = memory.clone();
+            Reference.aplx_load(table, &mut own, *header, &mut expected);
+            numbers.check(number, &expected)?;
+            lent.check("memory", &own)?;
+            map.check("the table", table)?;
+            count_load(tally, "aplx_load", &expected, memory);
+        }
+        Case::ScpAnswer { table, memory, identity, packet, output } => {
+            let (map, sent) = (Guarded::new(table, random), Guarded::new(packet, random));
+            let mut lent = Guarded::new(memory, random);
+            let mut answered = Guarded::new(output, random);
+            let number = library.scp_answer(
+                map.read(),
+                lent.lent(),
+                *identity,
+                sent.read(),
+                answered.lent(),
+                numbers.lent(),
+            );
+            let (mut own, mut own_output) = (memory.clone(), output.clone());
+            Reference.scp_answer(table, &mut own, *identity, packet, &mut own_output, &mut expected);
+            numbers.check(number, &expected)?;
+            lent.check("memory", &own)?;
+            answered.check("the output", &own_output)?;
+            map.check("the table", table)?;
+            sent.check("the packet", packet)?;
+            tally.count("scp_answer", reply_kind(&expected, packet, &own_output));
+            tally.count("scp_answer", memory_kind(memory.len()));
+        }
+        Case::PlanRead { plan, target } => {
+            let given = Guarded::new(plan, random);
+            let number = library.plan_read(given.read(), *target, numbers.lent());
+            Reference.plan_read(plan, *target, &mut expected);
+            numbers.check(number, &expected)?;
+            given.check("the plan", plan)?;
+            let call = match target {
+                0 => "plan_read 0",
+                1 => "plan_read 1",
+                _ => "plan_read +",
+            };
+            tally.count(call, number_kind(expected[0]));
+        }
+        Case::PackSrom { plan, output } => {
+            let given = Guarded::new(plan, random);
+            let mut lent = Guarded::new(output, random);
+            let number = library.pack_srom(given.read(), lent.lent(), numbers.lent());
+            let mut own = output.clone();
+            Reference.pack_srom(plan, &mut own, &mut expected);
+            numbers.check(number, &expected)?;
+            lent.check("the output", &own)?;
+            given.check("the plan", plan)?;
+            tally.count("pack_srom", number_kind(expected[0]));
+        }
+        Case::PackAplx { plan, output } => {
+            let given = Guarded::new(plan, random);
+            let mut lent = Guarded::new(output, random);
+            let number = library.pack_aplx(given.read(), lent.lent(), numbers.lent());
+            let mut own = output.clone();
+            Reference.pack_aplx(plan, &mut own, &mut expected);
+            numbers.check(number, &expected)?;
+            lent.check("the output", &own)?;
+            given.check("the plan", plan)?;
+            tally.count("pack_aplx", number_kind(expected[0]));
+        }
+        Case::Series { plan, table, memory, medium, steps } => {
+            return compare_series(library, plan, table, memory, *medium, steps, random, tally);
+        }
+    }
+    Ok(1)
+}
+
+fn count_load(tally: &mut Tally, call: &'static str, numbers: &Outcome, memory: &[u8]) {
+    tally.count(call, load_kind(numbers));
+    tally.count(call, memory_kind(memory.len()));
+    if let Some(taken) = taken_kind(numbers) {
+        tally.count(call, taken);
+    }
+}
+
+/// Packs the plan with the library, and compares a series of its loads with the plan's meaning.
+#[allow(clippy::too_many_arguments)]
+fn compare_series(
+    library: &dyn Library,
+    plan: &[u8],
+    table: &[u8],
+    memory: &[u8],
+    medium: Medium,
+    steps: &[Step],
+    random: &mut Random,
+    tally: &mut Tally,
+) -> Result<u64, String> {
+    let map = map_of(table).ok_or("the table holds no map")?;
+    let pieces = plan::read(plan, plan::NO_UNIT).map_err(|r| format!("not readable: {r:?}"))?;
+    let own_image = match medium {
+        Medium::Srom => pack::srom_image(plan, &pieces),
+        Medium::Aplx { .. } => pack::aplx_image(plan, &pieces),
+    };
+    let size = own_image.len() + random.pick(&[0, 0, 1, 40]);
+    let room = random.bytes(size);
+    let mut output = Guarded::new(&room, random);
+    let mut numbers = Numbers::new();
+    let number = match medium {
+        Medium::Srom => library.pack_srom(plan, output.lent(), numbers.lent()),
+        Medium::Aplx { .. } => library.pack_aplx(plan, output.lent(), numbers.lent()),
+    };
+    numbers.check(number, &[0, 0, own_image.len() as u64, 0, 0, 0, 0, 0])?;
+    let mut packed = room.clone();
+    packed[..own_image.len()].copy_from_slice(&own_image);
+    output.check("the packed output", &packed)?;
+    let image = output.read()[..own_image.len()].to_vec();
+    if !series::granted(medium, &pieces, &image, &map, memory, steps) {
+        return Err("the series does not keep what demand 3 grants".to_string());
+    }
+
+    let mut trouble = None;
+    let mut loader = |memory: &mut [u8], start: u64| -> Answer {
+        let mut lent = Guarded::new(memory, random);
+        let mut numbers = Numbers::new();
+        let number = match medium {
+            Medium::Srom => {
+                library.srom_load(table, lent.lent(), &image, start as usize, numbers.lent())
+            }
+            Medium::Aplx { .. } => {
+                library.aplx_load(table, lent.lent(), start as u32, numbers.lent())
+            }
+        };
+        memory.copy_from_slice(lent.read());
+        let told = *numbers.lent();
+        let answer = load_of(&told).unwrap_or(Err(Refusal { number: u32::MAX, place: 0 }));
+        let check = numbers.check(number, &load_numbers(answer)).and(lent.check("memory", memory));
+        trouble = trouble.take().or(check.err());
+        answer
+    };
+    let loads = series::loads(medium, &pieces, memory.to_vec(), steps, &mut loader);
+    if let Some(text) = trouble {
+        return Err(text);
+    }
+    let meant = series::meant(medium, plan, &pieces, &map, memory.to_vec(), steps);
+    for (index, (load, meaning)) in loads.iter().zip(&meant).enumerate() {
+        if load != meaning {
+            return Err(format!(
+                "load {index} differs from the plan's meaning\nload    {:?}\nmeaning {:?}\n\
+                 memory after the load {}\nmemory that is meant  {}",
+                load.report,
+                meaning.report,
+                shown(&load.memory),
+                shown(&meaning.memory)
+            ));
+        }
+        let call = if medium == Medium::Srom { "series SROM" } else { "series APLX" };
+        tally.count(call, report_kind(&meaning.report));
+    }
+    Ok(1 + loads.len() as u64)
+}
+
+fn report_kind(report: &Report) -> String {
+    match report {
+        Report::Run { entry, .. } => {
+            let name = if *entry == crate::outcome::Entry::Arm { "ARM" } else { "Thumb" };
+            format!("stop run {name}")
+        }
+        Report::End { .. } => "stop end".to_string(),
+        Report::Unknown { .. } => "stop unknown".to_string(),
+        Report::Refused { number, .. } => number_kind(u64::from(*number)),
+    }
+}
+
+/// Bytes in hex; only the front of very many.
+fn shown(bytes: &[u8]) -> String {
+    const MOST: usize = 16_384;
+    if bytes.len() <= MOST {
+        hex(bytes)
+    } else {
+        format!("{} .. ({} bytes in all)", hex(&bytes[..MOST]), bytes.len())
+    }
+}
+
+/// An input as text, one argument a line, bytes in hex.
+pub fn describe(case: &Case) -> String {
+    match case {
+        Case::MapAdd { table, additions } => {
+            let mut text = format!("map_add\n  table {}\n", shown(table));
+            for [base, length, place, rights] in additions {
+                text.push_str(&format!(
+                    "  base {base:#x} length {length:#x} place {place:#x} rights {rights:#x}\n"
+                ));
+            }
+            text
+        }
+        Case::SromLoad { table, memory, rom, offset } => format!(
+            "srom_load\n  table {}\n  memory {}\n  rom {}\n  offset {offset}\n",
+            shown(table),
+            shown(memory),
+            shown(rom)
+        ),
+        Case::AplxLoad { table, memory, header } => format!(
+            "aplx_load\n  table {}\n  memory {}\n  header {header:#x}\n",
+            shown(table),
+            shown(memory)
+        ),
+        Case::ScpAnswer { table, memory, identity, packet, output } => format!(
+            "scp_answer\n  table {}\n  memory {}\n  identity {identity:x?}\n  packet {}\n  output {}\n",
+            shown(table),
+            shown(memory),
+            shown(packet),
+            shown(output)
+        ),
+        Case::PlanRead { plan, target } => {
+            format!("plan_read\n  plan {}\n  target {target}\n", shown(plan))
+        }
+        Case::PackSrom { plan, output } => {
+            format!("pack_srom\n  plan {}\n  output {}\n", shown(plan), shown(output))
+        }
+        Case::PackAplx { plan, output } => {
+            format!("pack_aplx\n  plan {}\n  output {}\n", shown(plan), shown(output))
+        }
+        Case::Series { plan, table, memory, medium, steps } => {
+            let mut text = format!(
+                "series on {medium:x?}\n  plan {}\n  table {}\n  memory {}\n",
+                shown(plan),
+                shown(table),
+                shown(memory)
+            );
+            for step in steps {
+                text.push_str(&format!("  load from piece {}, then {:x?}\n", step.index, step.changes));
+            }
+            text
+        }
+    }
+}

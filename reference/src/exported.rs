@@ -1,0 +1,100 @@
+//! The reference as a library for C, with the same names as the project's. It stands in for the project's library
+//! where the differential test itself is tested.
+
+use reference::interface::{Library, Outcome, Reference};
+use reference::scp::Identity;
+use std::slice::{from_raw_parts, from_raw_parts_mut};
+
+#[no_mangle]
+pub unsafe extern "C" fn reidhintsje_map_add(
+    map: *mut u8, map_length: usize,
+    base: u32, length: u32, place: u32, rights: u32,
+) -> u32 {
+    Reference.map_add(from_raw_parts_mut(map, map_length), base, length, place, rights)
+}
+
+#[no_mangle]
+pub unsafe extern "C" fn reidhintsje_srom_load(
+    map: *const u8, map_length: usize,
+    memory: *mut u8, memory_length: usize,
+    rom: *const u8, rom_length: usize,
+    offset: usize,
+    outcome: *mut Outcome,
+) -> u32 {
+    Reference.srom_load(
+        from_raw_parts(map, map_length),
+        from_raw_parts_mut(memory, memory_length),
+        from_raw_parts(rom, rom_length),
+        offset,
+        &mut *outcome,
+    )
+}
+
+#[no_mangle]
+pub unsafe extern "C" fn reidhintsje_aplx_load(
+    map: *const u8, map_length: usize,
+    memory: *mut u8, memory_length: usize,
+    header: u32,
+    outcome: *mut Outcome,
+) -> u32 {
+    Reference.aplx_load(
+        from_raw_parts(map, map_length),
+        from_raw_parts_mut(memory, memory_length),
+        header,
+        &mut *outcome,
+    )
+}
+
+#[no_mangle]
+pub unsafe extern "C" fn reidhintsje_scp_answer(
+    map: *const u8, map_length: usize,
+    memory: *mut u8, memory_length: usize,
+    point_to_point: u16, physical_cpu: u8, virtual_cpu: u8, version: u16, date: u32,
+    packet: *const u8, packet_length: usize,
+    output: *mut u8, output_length: usize,
+    outcome: *mut Outcome,
+) -> u32 {
+    Reference.scp_answer(
+        from_raw_parts(map, map_length),
+        from_raw_parts_mut(memory, memory_length),
+        Identity { point_to_point, physical: physical_cpu, virtual_cpu, version, date },
+        from_raw_parts(packet, packet_length),
+        from_raw_parts_mut(output, output_length),
+        &mut *outcome,
+    )
+}
+
+#[no_mangle]
+pub unsafe extern "C" fn reidhintsje_plan_read(
+    plan: *const u8, plan_length: usize,
+    target: u32,
+    outcome: *mut Outcome,
+) -> u32 {
+    Reference.plan_read(from_raw_parts(plan, plan_length), target, &mut *outcome)
+}
+
+#[no_mangle]
+pub unsafe extern "C" fn reidhintsje_pack_srom(
+    plan: *const u8, plan_length: usize,
+    output: *mut u8, output_length: usize,
+    outcome: *mut Outcome,
+) -> u32 {
+    Reference.pack_srom(
+        from_raw_parts(plan, plan_length),
+        from_raw_parts_mut(output, output_length),
+        &mut *outcome,
+    )
+}
+
+#[no_mangle]
+pub unsafe extern "C" fn reidhintsje_pack_aplx(
+    plan: *const u8, plan_length: usize,
+    output: *mut u8, output_length: usize,
+    outcome: *mut Outcome,
+) -> u32 {
+    Reference.pack_aplx(
+        from_raw_parts(plan, plan_length),
+        from_raw_parts_mut(output, output_length),
+        &mut *outcome,
+    )
+}

@@ -1,0 +1,93 @@
+//! Random inputs of every call: valid ones, near-valid ones with one thing wrong, damaged ones, and random bytes.
+
+mod images;
+mod maps;
+mod packets;
+mod plans;
+mod roms;
+mod stretches;
+
+pub use maps::Scene;
+
+use crate::random::Random;
+use crate::scp::Identity;
+use crate::series::{Medium, Step};
+
+/// One input.
+#[derive(Clone, Debug, PartialEq, Eq)]
+pub enum Case {
+    /// Additions one after the other to one table: base, length, place, rights.
+    MapAdd { table: Vec<u8>, additions: Vec<[u32; 4]> },
+    SromLoad { table: Vec<u8>, memory: Vec<u8>, rom: Vec<u8>, offset: usize },
+    AplxLoad { table: Vec<u8>, memory: Vec<u8>, header: u32 },
+    ScpAnswer { table: Vec<u8>, memory: Vec<u8>, identity: Identity, packet: Vec<u8>, output: Vec<u8> },
+    PlanRead { plan: Vec<u8>, target: u32 },
+    PackSrom { plan: Vec<u8>, output: Vec<u8> },
+    PackAplx { plan: Vec<u8>, output: Vec<u8> },
+    Series { plan: Vec<u8>, table: Vec<u8>, memory: Vec<u8>, medium: Medium, steps: Vec<Step> },
+}
+
+/// How large inputs may be.
+#[derive(Clone, Copy, Debug, PartialEq, Eq)]
+pub enum Size {
+    /// For stored vectors: memory of at most 512 bytes, other slices of at most 1,200.
+    Stored,
+    /// Mostly small; now and then many MB.
+    Free,
+}
+
+#[derive(Clone, Copy, Debug, PartialEq, Eq)]
+pub enum Call {
+    MapAdd,
+    SromLoad,
+    AplxLoad,
+    ScpAnswer,
+    PlanRead,
+    PackSrom,
+    PackAplx,
+    Series,
+}
+
+/// An input of one call.
+pub fn case_of(call: Call, random: &mut Random, size: Size) -> Case {
+    match call {
+        Call::MapAdd => maps::additions(random),
+        Call::SromLoad => roms::load(random, size),
+        Call::AplxLoad => images::load(random, size),
+        Call::ScpAnswer => packets::answer(random, size),
+        Call::PlanRead => plans::read(random, size),
+        Call::PackSrom => plans::pack_srom(random, size),
+        Call::PackAplx => plans::pack_aplx(random, size),
+        Call::Series => stretches::series(random),
+    }
+}
+
+/// An input of any call.
+pub fn case(random: &mut Random) -> Case {
+    let call = match random.below(100) {
+        0..=9 => Call::MapAdd,
+        10..=27 => Call::SromLoad,
+        28..=47 => Call::AplxLoad,
+        48..=67 => Call::ScpAnswer,
+        68..=75 => Call::PlanRead,
+        76..=84 => Call::PackSrom,
+        85..=93 => Call::PackAplx,
+        _ => Call::Series,
+    };
+    case_of(call, random, Size::Free)
+}
+
+/// Changes one to three bytes.
+fn damage(random: &mut Random, bytes: &mut [u8]) {
+    if bytes.is_empty() {
+        return;
+    }
+    for _ in 0..random.between(1, 3) {
+        let at = random.below(bytes.len());
+        bytes[at] = match random.below(3) {
+            0 => bytes[at] ^ (1 << random.below(8)),
+            1 => random.pick(&[0, 1, 2, 3, 4, 0x3a, 0x55, 0xff]),
+            _ => random.byte(),
+        };
+    }
+}

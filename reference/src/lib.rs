@@ -1,0 +1,20 @@
+//! A second implementation of Reidhintsje's loading software, written from the papers alone.
+//! It shares no line and no definition with the proved one, so that a misreading in either shows as a difference.
+
+pub mod aplx;
+pub mod bytes;
+pub mod compare;
+pub mod generate;
+pub mod interface;
+pub mod map;
+pub mod outcome;
+pub mod pack;
+pub mod plan;
+pub mod random;
+pub mod scp;
+pub mod series;
+pub mod srom;
+pub mod tally;
+
+#[cfg(test)]
+mod tests;

@@ -1,0 +1,158 @@
+//! Counts of what occurred: each refusal number, stop and reply of each call, and those that must occur.
+
+use std::collections::BTreeMap;
+
+use crate::bytes::le16;
+use crate::interface::Outcome;
+use crate::scp;
+
+#[derive(Default)]
+pub struct Tally {
+    counts: BTreeMap<(&'static str, String), u64>,
+}
+
+impl Tally {
+    pub fn count(&mut self, call: &'static str, what: String) {
+        *self.counts.entry((call, what)).or_insert(0) += 1;
+    }
+
+    pub fn of(&self, call: &'static str, what: &str) -> u64 {
+        self.counts.get(&(call, what.to_string())).copied().unwrap_or(0)
+    }
+
+    /// The table as text; what is required and did not occur stands in it with 0.
+    pub fn table(&self, required: &[(&'static str, String)]) -> String {
+        let mut rows = self.counts.clone();
+        for key in required {
+            rows.entry(key.clone()).or_insert(0);
+        }
+        rows.iter()
+            .map(|((call, what), count)| format!("{call:<12} {what:<28} {count:>10}\n"))
+            .collect()
+    }
+
+    /// What is required and did not occur.
+    pub fn missing(&self, required: &[(&'static str, String)]) -> Vec<(&'static str, String)> {
+        required.iter().filter(|(call, what)| self.of(call, what) == 0).cloned().collect()
+    }
+}
+
+/// What a load came to.
+pub fn load_kind(numbers: &Outcome) -> String {
+    match (numbers[0], numbers[2]) {
+        (0, 1) => "stop end".to_string(),
+        (0, 2) => "stop unknown".to_string(),
+        (0, 3) => "stop run ARM".to_string(),
+        (0, 4) => "stop run Thumb".to_string(),
+        (number, _) => refused(number),
+    }
+}
+
+/// How many entries or blocks an accepted load took.
+pub fn taken_kind(numbers: &Outcome) -> Option<String> {
+    if numbers[0] != 0 {
+        return None;
+    }
+    Some(match numbers[5] {
+        few @ (0 | 1) => format!("taken {few}"),
+        255 => "taken 255".to_string(),
+        _ => "taken 2 or more".to_string(),
+    })
+}
+
+/// Memories in classes.
+pub fn memory_kind(length: usize) -> String {
+    let class = match length {
+        0..=600 => "to 600 bytes",
+        601..=65_535 => "to 64 KiB",
+        65_536..=1_048_575 => "to 1 MiB",
+        _ => "over 1 MiB",
+    };
+    format!("memory {class}")
+}
+
+/// What an SCP packet came to, with the command's name and the response's code.
+pub fn reply_kind(numbers: &Outcome, packet: &[u8], output: &[u8]) -> String {
+    let kind = |number| if number == 1 { "ARM" } else { "Thumb" };
+    match (numbers[0], numbers[2]) {
+        (0, 0) => "no response".to_string(),
+        (0, 1) => {
+            let command = match le16(packet, 0) {
+                scp::VER => "VER",
+                scp::RUN => "RUN",
+                scp::READ => "READ",
+                scp::WRITE => "WRITE",
+                scp::APLX => "APLX",
+                _ => "other",
+            };
+            let code = match le16(output, 0) {
+                scp::OK => "OK",
+                scp::LEN => "LEN",
+                scp::CMD => "CMD",
+                scp::ARG => "ARG",
+                _ => "?",
+            };
+            format!("response {command} {code}")
+        }
+        (0, 2) => format!("run by RUN {}", kind(numbers[4])),
+        (0, 3) => format!("run by APLX {}", kind(numbers[4])),
+        (number, _) => refused(number),
+    }
+}
+
+/// What reading or packing a plan, or adding a region, came to.
+pub fn number_kind(number: u64) -> String {
+    match number {
+        0 => "accepted".to_string(),
+        _ => refused(number),
+    }
+}
+
+fn refused(number: u64) -> String {
+    format!("refused {number:>2}")
+}
+
+/// Everything that can occur in a call.
+pub fn required() -> Vec<(&'static str, String)> {
+    let mut all: Vec<(&'static str, String)> = Vec::new();
+    let mut numbers = |call, list: &[u64]| {
+        all.extend(list.iter().map(|number| (call, number_kind(*number))));
+    };
+    numbers("map_add", &[0, 1]);
+    numbers("srom_load", &[1, 2, 3, 4, 9, 13]);
+    numbers("aplx_load", &[1, 3, 4, 5, 6, 7, 8, 9]);
+    numbers("scp_answer", &[1, 10]);
+    numbers("plan_read 0", &[0, 2, 3, 5, 9, 11, 12]);
+    numbers("plan_read 1", &[0, 2, 3, 5, 9, 11, 12]);
+    numbers("plan_read +", &[0, 2, 3, 5, 9, 11]);
+    numbers("pack_srom", &[0, 2, 3, 5, 9, 10, 11, 12]);
+    numbers("pack_aplx", &[0, 2, 3, 5, 9, 10, 11, 12]);
+    numbers("series SROM", &[4, 9]);
+    numbers("series APLX", &[4, 9]);
+    let mut words = |call, list: &[&str]| {
+        all.extend(list.iter().map(|what| (call, what.to_string())));
+    };
+    words("srom_load", &["stop end", "stop run ARM", "stop run Thumb"]);
+    words("aplx_load", &["stop end", "stop unknown", "stop run ARM", "stop run Thumb"]);
+    for taken in ["taken 0", "taken 1", "taken 2 or more"] {
+        words("srom_load", &[taken]);
+        words("aplx_load", &[taken]);
+    }
+    words("aplx_load", &["taken 255"]);
+    for memory in [0, 601, 65_536, 1_048_576] {
+        words("srom_load", &[&memory_kind(memory)]);
+        words("aplx_load", &[&memory_kind(memory)]);
+        words("scp_answer", &[&memory_kind(memory)]);
+    }
+    words("series SROM", &["stop end", "stop run ARM", "stop run Thumb"]);
+    words("series APLX", &["stop end", "stop run ARM", "stop run Thumb"]);
+    words("scp_answer", &["no response", "run by RUN ARM", "run by RUN Thumb"]);
+    words("scp_answer", &["run by APLX ARM", "run by APLX Thumb"]);
+    for reply in [
+        "VER OK", "VER LEN", "RUN LEN", "RUN ARG", "READ OK", "READ LEN", "READ ARG", "WRITE OK",
+        "WRITE LEN", "WRITE ARG", "APLX OK", "APLX LEN", "APLX ARG", "other CMD", "other LEN",
+    ] {
+        words("scp_answer", &[&format!("response {reply}")]);
+    }
+    all
+}

@@ -1,0 +1,323 @@
+//! Writes stored vectors for a Rattle program: `vectors DIR` writes DIR/stdin and DIR/stdout.
+//!
+//! DIR/stdin is a stream of records. A record is one call: a byte for its kind (1 map_add, 2 srom_load,
+//! 3 aplx_load, 4 scp_answer, 5 plan_read, 6 pack_srom, 7 pack_aplx), then its arguments in the order of the
+//! interface: a number as 8 bytes Little Endian, a slice as its length in 4 bytes Little Endian and its bytes,
+//! an output buffer by its bytes before the call; the outcome array is no argument of a record. A sequence of
+//! additions is a row of map_add records, each with the table that the one before it left.
+//!
+//! DIR/stdout has for each record: a line with the kind's name and the record's number, counted from 0; a line with
+//! the returned number and the eight outcome numbers (map_add: the returned number only); and for each buffer that
+//! the call may change a line with its bytes in hex: the table, or memory, then the output.
+
+use std::fs;
+use std::path::Path;
+use std::process::exit;
+
+use reference::bytes::{hex, unhex};
+use reference::generate::{case_of, Call, Case, Size};
+use reference::interface::{table_of, Library, Outcome, Reference};
+use reference::map::{Map, Region, Rights};
+use reference::random::Random;
+use reference::scp::Identity;
+use reference::tally::{load_kind, number_kind, reply_kind, required, Tally};
+
+const SEED: u64 = 6_122_011;
+const MOST_INPUT: usize = 500_000;
+const MOST_MEMORY: usize = 512;
+/// Records of one call that come to the same thing.
+const ALIKE: u64 = 7;
+/// Random inputs that are drawn for each call.
+const DRAWN: usize = 20_000;
+
+/// What can't occur with so small a memory or slice, or is not a thing of single calls.
+fn beyond(call: &str, what: &str) -> bool {
+    call.starts_with("series")
+        || what.starts_with("memory")
+        || what.starts_with("taken")
+        || (call == "srom_load" && what == "refused 13")
+        || (call == "aplx_load" && what == "refused  7")
+}
+
+#[derive(Default)]
+struct Streams {
+    input: Vec<u8>,
+    expected: String,
+    records: u64,
+    tally: Tally,
+}
+
+/// The arguments of one record.
+struct Record {
+    bytes: Vec<u8>,
+}
+
+impl Record {
+    fn new(kind: u8) -> Record {
+        Record { bytes: vec![kind] }
+    }
+
+    fn number(mut self, number: u64) -> Record {
+        self.bytes.extend(number.to_le_bytes());
+        self
+    }
+
+    fn slice(mut self, slice: &[u8]) -> Record {
+        self.bytes.extend((slice.len() as u32).to_le_bytes());
+        self.bytes.extend(slice);
+        self
+    }
+}
+
+impl Streams {
+    fn write(&mut self, record: Record, name: &str, numbers: &[u64], buffers: &[&[u8]]) {
+        self.input.extend(record.bytes);
+        self.expected.push_str(&format!("{name} {}\n", self.records));
+        let numbers: Vec<String> = numbers.iter().map(u64::to_string).collect();
+        self.expected.push_str(&format!("{}\n", numbers.join(" ")));
+        for buffer in buffers {
+            self.expected.push_str(&format!("{}\n", hex(buffer)));
+        }
+        self.records += 1;
+    }
+
+    /// Whether there are few records yet of a call that come to this; counts one more if so.
+    fn wants(&mut self, call: &'static str, what: String) -> bool {
+        let few = self.tally.of(call, &what) < ALIKE;
+        if few {
+            self.tally.count(call, what);
+        }
+        few
+    }
+
+    /// Adds the records of a case; `always`: also where many are alike.
+    fn add(&mut self, case: &Case, always: bool) {
+        let mut outcome: Outcome = [0; 8];
+        let all = |number: u32, outcome: &Outcome| {
+            let mut numbers = vec![u64::from(number)];
+            numbers.extend(outcome);
+            numbers
+        };
+        match case {
+            Case::MapAdd { table, additions } => {
+                let mut table = table.clone();
+                let mut records = Vec::new();
+                let mut wanted = always;
+                for [base, length, place, rights] in additions.iter().copied() {
+                    let record = Record::new(1)
+                        .slice(&table)
+                        .number(u64::from(base))
+                        .number(u64::from(length))
+                        .number(u64::from(place))
+                        .number(u64::from(rights));
+                    let number = Reference.map_add(&mut table, base, length, place, rights);
+                    wanted |= self.wants("map_add", number_kind(u64::from(number)));
+                    records.push((record, number, table.clone()));
+                }
+                if wanted {
+                    for (record, number, after) in records {
+                        self.write(record, "map_add", &[u64::from(number)], &[&after]);
+                    }
+                }
+            }
+            Case::SromLoad { table, memory, rom, offset } => {
+                let mut after = memory.clone();
+                let number = Reference.srom_load(table, &mut after, rom, *offset, &mut outcome);
+                if self.wants("srom_load", load_kind(&outcome)) || always {
+                    let record =
+                        Record::new(2).slice(table).slice(memory).slice(rom).number(*offset as u64);
+                    self.write(record, "srom_load", &all(number, &outcome), &[&after]);
+                }
+            }
+            Case::AplxLoad { table, memory, header } => {
+                let mut after = memory.clone();
+                let number = Reference.aplx_load(table, &mut after, *header, &mut outcome);
+                if self.wants("aplx_load", load_kind(&outcome)) || always {
+                    let record = Record::new(3).slice(table).slice(memory).number(u64::from(*header));
+                    self.write(record, "aplx_load", &all(number, &outcome), &[&after]);
+                }
+            }
+            Case::ScpAnswer { table, memory, identity, packet, output } => {
+                let (mut after, mut answered) = (memory.clone(), output.clone());
+                let number = Reference.scp_answer(
+                    table, &mut after, *identity, packet, &mut answered, &mut outcome,
+                );
+                if self.wants("scp_answer", reply_kind(&outcome, packet, &answered)) || always {
+                    let record = Record::new(4)
+                        .slice(table)
+                        .slice(memory)
+                        .number(u64::from(identity.point_to_point))
+                        .number(u64::from(identity.physical))
+                        .number(u64::from(identity.virtual_cpu))
+                        .number(u64::from(identity.version))
+                        .number(u64::from(identity.date))
+                        .slice(packet)
+                        .slice(output);
+                    self.write(record, "scp_answer", &all(number, &outcome), &[&after, &answered]);
+                }
+            }
+            Case::PlanRead { plan, target } => {
+                let number = Reference.plan_read(plan, *target, &mut outcome);
+                let call = match target {
+                    0 => "plan_read 0",
+                    1 => "plan_read 1",
+                    _ => "plan_read +",
+                };
+                if self.wants(call, number_kind(outcome[0])) || always {
+                    let record = Record::new(5).slice(plan).number(u64::from(*target));
+                    self.write(record, "plan_read", &all(number, &outcome), &[]);
+                }
+            }
+            Case::PackSrom { plan, output } => {
+                let mut after = output.clone();
+                let number = Reference.pack_srom(plan, &mut after, &mut outcome);
+                if self.wants("pack_srom", number_kind(outcome[0])) || always {
+                    let record = Record::new(6).slice(plan).slice(output);
+                    self.write(record, "pack_srom", &all(number, &outcome), &[&after]);
+                }
+            }
+            Case::PackAplx { plan, output } => {
+                let mut after = output.clone();
+                let number = Reference.pack_aplx(plan, &mut after, &mut outcome);
+                if self.wants("pack_aplx", number_kind(outcome[0])) || always {
+                    let record = Record::new(7).slice(plan).slice(output);
+                    self.write(record, "pack_aplx", &all(number, &outcome), &[&after]);
+                }
+            }
+            Case::Series { .. } => {}
+        }
+    }
+}
+
+fn table(regions: &[[u32; 4]]) -> Vec<u8> {
+    let regions = regions
+        .iter()
+        .map(|[base, length, place, rights]| Region {
+            base: *base,
+            length: *length,
+            place: *place,
+            rights: Rights::from_number(*rights),
+        })
+        .collect();
+    table_of(&Map { regions })
+}
+
+/// The paper's pieces with known weight, as far as they fit.
+fn weighed() -> Vec<Case> {
+    let empty = table(&[]);
+    let plan = |text: &str| unhex(text);
+    let fill_and_run = plan(
+        "02000000 10000000 30000000 00000000 02000000 00004000 20000000 00000000
+         03000000 00000000 00000000 00000000",
+    );
+    let mut put_and_run = plan(
+        "02000000 10000000 30000000 20000000 01000000 00000000 20000000 00000000
+         03000000 00000000 00000000 00000000",
+    );
+    put_and_run.extend(1..=32);
+    let srom_fill =
+        plan("01000000 10000000 20000000 00000000 02000000 e07f00f5 04000000 04030201");
+    let nothing = plan("00000000 10000000 10000000 00000000");
+    let dump = unhex(
+        "553a0008f5007fe0000080810e3e00a4 88c15882fac058820000ffff000045e5 000000000000000000aa",
+    );
+    let mut cases = vec![
+        Case::SromLoad { table: table(&[[0xf500_7fe0, 32, 3, 2]]), memory: vec![0; 40], rom: dump, offset: 0 },
+        Case::PackAplx { plan: fill_and_run, output: vec![0x77; 50] },
+        Case::PackAplx { plan: put_and_run.clone(), output: vec![0x77; 80] },
+        Case::PackAplx { plan: put_and_run, output: vec![0x77; 79] },
+        Case::PackSrom { plan: srom_fill, output: vec![0x77; 13] },
+        Case::PackAplx { plan: nothing.clone(), output: vec![0x77; 16] },
+        Case::PackSrom { plan: nothing, output: vec![0x77; 2] },
+        Case::SromLoad { table: empty.clone(), memory: vec![9; 4], rom: vec![0xff], offset: 0 },
+        Case::SromLoad { table: empty.clone(), memory: vec![9; 4], rom: vec![], offset: 0 },
+        Case::MapAdd {
+            table: empty,
+            additions: vec![[4_294_967_280, 4, 0, 7], [4_294_967_276, 4, 0, 7], [4_294_967_276, 4, 4, 7]],
+        },
+    ];
+    for length in [1, 32, 33, 0] {
+        let words = [3, 0x1000, length, 0xabab_abab, 0xffff_ffff, 0, 0, 0u32];
+        let mut memory: Vec<u8> = words.iter().flat_map(|word| word.to_le_bytes()).collect();
+        memory.resize(128, 0);
+        let table = table(&[[0, 32, 0, 1], [0x1000, 96, 32, 2]]);
+        cases.push(Case::AplxLoad { table, memory, header: 0 });
+    }
+    for length in [256u32, 257] {
+        let mut packet = vec![2, 0, 7, 8, 0, 0, 0, 0];
+        packet.extend(length.to_le_bytes());
+        packet.extend([0; 4]);
+        cases.push(Case::ScpAnswer {
+            table: table(&[[0, 300, 0, 1]]),
+            memory: (0..300).map(|k| k as u8).collect(),
+            identity: Identity { point_to_point: 258, physical: 3, virtual_cpu: 4, version: 129, date: 5 },
+            packet,
+            output: vec![0x77; 272],
+        });
+    }
+    for count in [64u32, 65] {
+        let mut plan: Vec<u8> = [count, 16, 16, 0].iter().flat_map(|word| word.to_le_bytes()).collect();
+        for _ in 0..count {
+            plan.extend([3, 0, 0, 0, 0, 0, 0, 0, 0, 0, 0, 0, 0, 0, 0, 0]);
+        }
+        cases.push(Case::PlanRead { plan, target: 0 });
+    }
+    cases
+}
+
+fn memory_length(case: &Case) -> usize {
+    match case {
+        Case::SromLoad { memory, .. } | Case::AplxLoad { memory, .. } | Case::ScpAnswer { memory, .. } => {
+            memory.len()
+        }
+        _ => 0,
+    }
+}
+
+fn main() {
+    let arguments: Vec<String> = std::env::args().skip(1).collect();
+    let [folder] = arguments.as_slice() else {
+        eprintln!("usage: vectors DIR");
+        exit(2)
+    };
+    let mut streams = Streams::default();
+    for case in weighed() {
+        streams.add(&case, true);
+    }
+    let mut random = Random::new(SEED);
+    for call in [
+        Call::MapAdd,
+        Call::SromLoad,
+        Call::AplxLoad,
+        Call::ScpAnswer,
+        Call::PlanRead,
+        Call::PackSrom,
+        Call::PackAplx,
+    ] {
+        for drawn in 0..DRAWN {
+            let case = case_of(call, &mut random, Size::Stored);
+            assert!(memory_length(&case) <= MOST_MEMORY);
+            streams.add(&case, drawn < 12);
+        }
+    }
+    let mut missing = streams.tally.missing(&required());
+    missing.retain(|(call, what)| !beyond(call, what));
+    if !missing.is_empty() || streams.input.len() > MOST_INPUT {
+        println!("FAILED: {} bytes; did not occur: {missing:?}", streams.input.len());
+        exit(1);
+    }
+    let folder = Path::new(folder);
+    let written = fs::create_dir_all(folder)
+        .and_then(|()| fs::write(folder.join("stdin"), &streams.input))
+        .and_then(|()| fs::write(folder.join("stdout"), &streams.expected));
+    if let Err(error) = written {
+        eprintln!("{}: {error}", folder.display());
+        exit(1);
+    }
+    println!(
+        "{} records: {} bytes of input, {} bytes of answers",
+        streams.records,
+        streams.input.len(),
+        streams.expected.len()
+    );
+}
