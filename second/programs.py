@@ -35,7 +35,7 @@ puts = [(1, 0x60000000 + 0x10000 * k, len(table), 0) for k in range(3)]
 run = (3, 0x60000000, 0, 0)
 
 inputs = {
-    'plan_to_aplx': hex_text('coefficients.hex'),
+    'plan_to_aplx': hex_text('coefficients.plan.hex'),
     # a put of 20 bytes
     'case_refused': plan([(2, 0x400000, 32, 0), (1, 0x400000, 20, 0)], bytes(20)),
     # a plan of 32,768 bytes whose image has 65,536
