@@ -45,15 +45,13 @@ module _ (m : Map) (i : ℕ) where
     unfolding every
     every-end h = rw (none h)
 
-  -- the region at i keeps the rules, and those behind it are clear of it
-  abbrev stands : Bool
-  stands = keepsRules (regionAt m i) && every (clear (regionAt m i)) (drop (i + 1) (regionsOf m))
-
-  pub rules-fail : i < length (regionsOf m) → stands ≡ false → allKeepRules (drop i (regionsOf m)) ≡ false
+  -- the region at i breaks a rule, or all is said by those behind it
+  pub rules-fail : i < length (regionsOf m) → keepsRules (regionAt m i) ≡ false → allKeepRules (drop i (regionsOf m)) ≡ false
   unfolding allKeepRules
   rules-fail h e = simp (next h, e)
 
-  pub rules-go : i < length (regionsOf m) → stands ≡ true → allKeepRules (drop i (regionsOf m)) ≡ allKeepRules (drop (i + 1) (regionsOf m))
+  pub rules-go : i < length (regionsOf m) → keepsRules (regionAt m i) ≡ true
+      → allKeepRules (drop i (regionsOf m)) ≡ (every (clear (regionAt m i)) (drop (i + 1) (regionsOf m)) && allKeepRules (drop (i + 1) (regionsOf m)))
   unfolding allKeepRules
   rules-go h e = simp (next h, e)
 

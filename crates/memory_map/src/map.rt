@@ -87,44 +87,24 @@ impl Map {
         if n < 8 { n } else { 8 }
     }
 
-    // Whether every region from an index on is clear of a region.
-    fn clear_from(self, from: usize, region: Region) -> bool
-        ensures { λ r. ⌜ r ≡ every (clear region) (drop from (regionsOf self)) ⌝ }
-    {
-        let n = self.used();
-        let mut i = from;
-        while i < n {
-            let other = self.regions[i];
-            if !region.clear_of(other) {
-                return false;
-            }
-            i += 1;
-        }
-        true
-    }
-
-    // Whether a region that is in use keeps the rules, and every later one is clear of it.
-    fn region_keeps_rules(self, i: usize) -> bool
-        requires { ⌜ (i < length (regionsOf self)) × (i < 8) ⌝ }
-        ensures { λ r. ⌜ r ≡ (keepsRules (regionAt self i) && every (clear (regionAt self i)) (drop (i + 1) (regionsOf self))) ⌝ }
-    {
-        let region = self.regions[i];
-        if region.keeps_rules() {
-            self.clear_from(i + 1, region)
-        } else {
-            false
-        }
-    }
-
-    // Whether the regions in use keep every rule that needs no buffer.
+    // Whether the regions in use keep every rule that needs no buffer: each its own, and each is clear of the later ones.
     fn keeps_rules(self) -> bool
         ensures { λ r. ⌜ r ≡ allKeepRules (regionsOf self) ⌝ }
     {
         let n = self.used();
         let mut i: usize = 0;
         while i < n {
-            if !self.region_keeps_rules(i) {
+            let region = self.regions[i];
+            if !region.keeps_rules() {
                 return false;
+            }
+            let mut j = i + 1;
+            while j < n {
+                let other = self.regions[j];
+                if !region.clear_of(other) {
+                    return false;
+                }
+                j += 1;
             }
             i += 1;
         }
