@@ -3,7 +3,7 @@ ghost use mathlib.Core.Path.{_≡_};
 ghost use mathlib.Core.List.{_∷_, _++_};
 ghost use Prim.Native.Nat.{_+_, _*_, _%_, _≤_};
 ghost use lib.ListN.{length};
-ghost use Rattle.words.specs.Bytes.{bigEndian};
+ghost use Rattle.words.specs.Bytes.{littleEndian, bigEndian};
 ghost use Rattle.words.specs.Repeat.{repeated, filling};
 ghost use Rattle.words.specs.Store.{store};
 ghost use Rattle.words.specs.Swap.{swapWords};
@@ -23,14 +23,26 @@ fn put_header(output: &mut [u8], at: usize, words: u16, address: u32)
     words::put::be_word(output, at + 3, address);
 }
 
+// The word whose bytes are the other way round.
+fn turned(word: u32) -> u32
+    ensures { λ r. ⌜ littleEndian 4 r ≡ bigEndian 4 word ⌝ }
+{
+    word % 256 * 16777216 + word / 256 % 256 * 65536 + word / 65536 % 256 * 256 + word / 16777216
+}
+
 // A word repeated, Big Endian.
 fn put_fill(output: &mut [u8], at: usize, count: usize, word: u32)
     requires { ⌜ at + 4 * count ≤ length (now output) ⌝ }
     ensures { λ _. ⌜ now (output .exit) ≡ store (now (output .entry)) at (swapWords (repeated count word)) ⌝ }
 {
+    let little = turned(word);
     let mut i: usize = 0;
     while i < count {
-        words::put::be_word(output, at + 4 * i, word);
+        let p = at + i * 4;
+        output[p] = (little % 256) as u8;
+        output[p + 1] = (little / 256 % 256) as u8;
+        output[p + 2] = (little / 65536 % 256) as u8;
+        output[p + 3] = (little / 16777216 % 256) as u8;
         i += 1;
     }
 }

@@ -2,12 +2,13 @@
 use mathlib.Core.Path.{_≡_, refl, ap, sym, _∙_}
 use mathlib.Core.List.{List, _++_}
 use Prim.Native.Nat.{ℕ, zero, suc, _+_, _-_, _*_, _/_, _%_, _≤_, _<_}
+use native.Mathlib.Nat.{zero-add, add-zero}
 use native.Mathlib.Omega.{arith}
-use lib.ListN.{length, take, drop, length-drop}
+use lib.ListN.{length, take, drop, replicate, length-drop}
 use lib.Seq.{length-take-le, take-add, drop-drop}
-use Rattle.words.specs.Range.Laws.{Apart, apart-part}
-use Rattle.words.specs.Store.{store}
-use Rattle.words.specs.Store.Laws.{length-store, part-outside, store-adjoining, store-nil}
+use Rattle.words.specs.Range.Laws.{Apart, before, behind, apart-part}
+use Rattle.words.specs.Store.{store, storeIfFits}
+use Rattle.words.specs.Store.Laws.{length-store, part-outside, store-adjoining, store-nil, store-fits, store-whole}
 use Rattle.aplx.specs.Copy.{copyWords, copied}
 
 -- ---- k words, i of them copied
@@ -63,17 +64,75 @@ words-outside (suc k) d s m x y q j a =
     words-outside k (d + 4) (s + 4) (store m d (take 4 (drop s m))) (omega arith) (omega arith) q j (apart-part q j (d + 4) (4 * k) a (omega arith) (omega arith) (omega arith) (omega arith))
     ∙ first-outside k d s m x y q j a
 
-words-apart : (k d s : ℕ) (m : List ℕ) → d + 4 * k ≤ length m → s + 4 * k ≤ length m → Apart s (4 * k) d (4 * k)
+-- no word is read after it was written over: the destination begins before the source, or behind its n bytes
+pub data Ahead (s d n : ℕ) : Type 0 where
+  down : d ≤ s → Ahead s d n
+  clear : s + n ≤ d → Ahead s d n
+
+-- of k + 1 words, those behind the first are as they were, and are read in time
+ahead-rest : (k : ℕ) {s d : ℕ} → Ahead s d (4 * suc k) → Apart (s + 4) (4 * k) d 4 × Ahead (s + 4) (d + 4) (4 * k)
+ahead-rest k (down h) = (behind (omega arith), down (omega arith))
+ahead-rest k (clear h) = (before (omega arith), clear (omega arith))
+
+pub words-ahead : (k d s : ℕ) (m : List ℕ) → d + 4 * k ≤ length m → s + 4 * k ≤ length m → Ahead s d (4 * k)
     → copyWords k d s m ≡ store m d (take (4 * k) (drop s m))
 unfolding copyWords
-words-apart zero d s m x y a = sym (store-nil m d)
-words-apart (suc k) d s m x y a =
+words-ahead zero d s m x y a = sym (store-nil m d)
+words-ahead (suc k) d s m x y a =
     let w = take 4 (drop s m) in
     let l = length-first k d s m x y in
-    let i = words-apart k (d + 4) (s + 4) (store m d w) (omega arith) (omega arith) (apart-part (s + 4) (4 * k) (d + 4) (4 * k) a (omega arith) (omega arith) (omega arith) (omega arith)) in
-    let r = first-outside k d s m x y (s + 4) (4 * k) (apart-part (s + 4) (4 * k) d (4 * suc k) a (omega arith) (omega arith) (omega arith) (omega arith)) in
-    i ∙ ap (store (store m d w) (d + 4)) r
+    let r = ahead-rest k a in
+    let i = words-ahead k (d + 4) (s + 4) (store m d w) (omega arith) (omega arith) (r .1) in
+    let o = part-outside m d w (word-fits k d s m x y) (s + 4) (4 * k) (rw (length-word k d s m x y) (r .0)) in
+    i ∙ ap (store (store m d w) (d + 4)) o
     ∙ rw (first-and-rest k d s m x y) (rw (length-word k d s m x y) at (store-adjoining m d w (word-fits k d s m x y) (take (4 * k) (drop (s + 4) m))))
+
+-- k words, then j more
+pub copy-split : (k j d s : ℕ) (m : List ℕ) → copyWords (k + j) d s m ≡ copyWords j (d + 4 * k) (s + 4 * k) (copyWords k d s m)
+unfolding copyWords
+copy-split zero j d s m = simp (zero-add, add-zero)
+copy-split (suc k) j d s m =
+    let z : suc k + j ≡ suc (k + j) = omega arith in
+    let u : d + 4 * suc k ≡ d + 4 + 4 * k = omega arith in
+    let v : s + 4 * suc k ≡ s + 4 + 4 * k = omega arith in
+    rw (z, u, v) (copy-split k j (d + 4) (s + 4) (store m d (take 4 (drop s m))))
+
+-- ---- groups of eight words
+-- a group g that is read whole, and then stored
+pub group-copied : (m g last d : List ℕ) (to from : ℕ) → to + 32 ≤ length m → from + 32 ≤ length m → d ≡ take 32 (drop from m)
+    → g ≡ storeIfFits (replicate 32 0) 0 d → last ≡ storeIfFits m to g → last ≡ store m to (take 32 (drop from m))
+group-copied m g last d to from x y e f h =
+    let l : length d ≡ 32 = ap length e ∙ length-take-le 32 (drop from m) (omega (arith, length-drop from m)) in
+    let k : g ≡ d = f ∙ store-fits (replicate 32 0) 0 d (omega arith) ∙ store-whole (replicate 32 0) d l in
+    h ∙ ap (storeIfFits m to) (k ∙ e) ∙ store-fits m to (take 32 (drop from m)) (omega (arith, ap length e))
+
+-- with i of k groups copied, the next
+pub group-next : (k i d s : ℕ) (m : List ℕ) → i < k → d + 32 * k ≤ length m → s + 32 * k ≤ length m → Ahead s d 32
+    → copyWords (8 * (k - i)) (d + 32 * i) (s + 32 * i) m
+    ≡ copyWords (8 * (k - (i + 1))) (d + 32 * (i + 1)) (s + 32 * (i + 1)) (store m (d + 32 * i) (take 32 (drop (s + 32 * i) m)))
+group-next k i d s m h x y a =
+    let z : 8 * (k - i) ≡ 8 + 8 * (k - (i + 1)) = omega arith in
+    let u : d + 32 * (i + 1) ≡ d + 32 * i + 4 * 8 = omega arith in
+    let v : s + 32 * (i + 1) ≡ s + 32 * i + 4 * 8 = omega arith in
+    rw (z, copy-split 8 (8 * (k - (i + 1))) (d + 32 * i) (s + 32 * i) m, words-ahead 8 (d + 32 * i) (s + 32 * i) m (omega arith) (omega arith) (moved a), u, v)
+  where
+    moved : Ahead s d 32 → Ahead (s + 32 * i) (d + 32 * i) 32
+    moved (down h) = down (omega arith)
+    moved (clear h) = clear (omega arith)
+
+-- the groups of n bytes, then the words that are left
+pub copied-groups : (n d s : ℕ) (m : List ℕ) → n % 4 ≡ 0
+    → copied n d s m ≡ copied (n - n / 32 * 32) (d + n / 32 * 32) (s + n / 32 * 32) (copyWords (8 * (n / 32)) d s m)
+unfolding copied
+copied-groups n d s m h =
+    let z : n / 4 ≡ 8 * (n / 32) + (n - n / 32 * 32) / 4 = omega arith in
+    let u : d + n / 32 * 32 ≡ d + 4 * (8 * (n / 32)) = omega arith in
+    let v : s + n / 32 * 32 ≡ s + 4 * (8 * (n / 32)) = omega arith in
+    rw (u, v) (ap (λ (k : ℕ). copyWords k d s m) z ∙ copy-split (8 * (n / 32)) ((n - n / 32 * 32) / 4) d s m)
+
+apart-ahead : {s d n : ℕ} → Apart s n d n → Ahead s d n
+apart-ahead (before h) = clear h
+apart-ahead (behind h) = down (omega arith)
 
 -- ---- n bytes
 module _ (n d s : ℕ) (m : List ℕ) (x : d + n ≤ length m) (y : s + n ≤ length m) where
@@ -92,4 +151,4 @@ module _ (n d s : ℕ) (m : List ℕ) (x : d + n ≤ length m) (y : s + n ≤ le
   unfolding copied
   copied-apart h a =
       let e : 4 * (n / 4) ≡ n = omega arith in
-      rw e at (words-apart (n / 4) d s m (omega arith) (omega arith) (rw e a))
+      rw e at (words-ahead (n / 4) d s m (omega arith) (omega arith) (rw e (apart-ahead a)))

@@ -47,8 +47,8 @@ lookup-requires-2 c κs = search needs
 place-requires-2 : tie.Need-place-requires-2
 place-requires-2 c κs = search needs
 
-copy-words-requires : tie.Need-copy-words-requires
-copy-words-requires c κs =
+copy-requires : tie.Need-copy-requires
+copy-requires c κs =
     let k = c .before .before .before .before .before .before in
     let s = k .before .before .before in
     let f = k .command .given .0 in
@@ -91,7 +91,7 @@ unfolding perform
 returns c =
     let p = c .before .before .before .before in
     let t = p .before .before in
-    simp (t .before .before .before .command .given .1, ← target t, ← source p) (c .before .before .copy-words .ensures)
+    simp (t .before .before .before .command .given .1, ← target t, ← source p) (c .before .before .copy .ensures)
 
 same-length-2 : tie.Need-same-length-2
 same-length-2 c = search needs
@@ -119,7 +119,7 @@ perform-command-spec =
     place-requires
     lookup-requires-2
     place-requires-2
-    copy-words-requires
+    copy-requires
     enum-known-command-2
     lookup-requires-3
     place-requires-3
