@@ -10,12 +10,12 @@ use Rattle.words.specs.Store.{store}
 use Rattle.words.specs.Store.Laws.{length-store, store-adjoining, store-nil}
 use Rattle.plan.specs.declared.piece.Piece as code-piece
 use Rattle.plan.specs.declared.piece.Piece.the-variants.{Put, Fill, Run}
-use Rattle.plan.specs.Plan.{Piece, run}
+use Rattle.plan.specs.Plan.{Piece, run, dataOf}
 use Rattle.plan.specs.Packed.{planPieces}
 use Rattle.plan.specs.Code.{pieceIs}
 use Rattle.plan.specs.Code.Packer.{Writable}
 use Rattle.plan.specs.Code.Laws.{data-length, Found}
-use Rattle.aplx_pack.specs.Image.{entry, entryOf, dataOf, entries, datas, aplxImage}
+use Rattle.aplx_pack.specs.Image.{entry, entryOf, entries, datas, aplxImage}
 use Rattle.aplx_pack.specs.Image.Laws.{length-entry, length-entryOf, length-entries, drop-entries, datas-append, datas-split}
 use Rattle.aplx_pack.specs.Code.{dataIs}
 use Rattle.aplx_pack.proofs.Writing.{front-grows, both-grow}

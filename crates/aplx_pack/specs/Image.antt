@@ -4,7 +4,7 @@ use mathlib.Core.List.{List, [], _∷_, _++_}
 use Prim.Native.Nat.{ℕ, suc, _+_, _*_}
 use lib.ListN.{length}
 use Rattle.words.specs.Bytes.{littleEndian}
-use Rattle.plan.specs.Plan.{Piece, put, fill, run, readPlan}
+use Rattle.plan.specs.Plan.{Piece, put, fill, run, dataOf, readPlan}
 use Rattle.plan.specs.Packed.{Packed, packedAs}
 
 -- four Little Endian words
@@ -16,11 +16,6 @@ unfoldable pub entryOf : Piece → ℕ → List ℕ
 entryOf (put a d) off = entry 2 a off (length d)
 entryOf (fill a n w) off = entry 3 a n w
 entryOf (run a) off = entry 4 a 0 0
-
-abbrev pub dataOf : Piece → List ℕ
-dataOf (put a d) = d
-dataOf (fill a n w) = []
-dataOf (run a) = []
 
 -- the entries of pieces, and "an end entry of 0xFFFFFFFF and three zeros". Behind the first entry come those of the other pieces, the
 -- end entry, and so many bytes of data of earlier pieces

@@ -3,9 +3,10 @@ ghost use mathlib.Core.Path.{_≡_};
 ghost use Prim.Native.Nat.{_+_, _-_, _≤_, _<_};
 ghost use lib.ListN.{length};
 ghost use Rattle.words.specs.Store.{store};
+ghost use Rattle.plan.specs.Plan.{dataOf};
 ghost use Rattle.plan.specs.Code.{pieceIs};
 ghost use Rattle.plan.specs.Code.Packer.{Writable};
-ghost use Rattle.aplx_pack.specs.Image.{entry, entryOf, dataOf};
+ghost use Rattle.aplx_pack.specs.Image.{entry, entryOf};
 ghost use Rattle.aplx_pack.specs.Code.{dataIs};
 use plan::piece::Piece;
 

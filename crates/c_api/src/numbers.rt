@@ -1,7 +1,5 @@
 // Outcomes as eight numbers.
 ghost use mathlib.Core.Path.{_≡_};
-ghost use mathlib.Core.List.{List, [], _∷_};
-ghost use Prim.Native.Nat.{ℕ};
 ghost use Rattle.memory_map.specs.Outcome.{outcomeOf, stopOf, accepted, kindOf, addressOf};
 ghost use Rattle.plan.specs.Code as reader;
 ghost use Rattle.plan.specs.Code.Packer as packer;

@@ -1,11 +1,10 @@
 // Up to eight regions over one lent buffer.
 ghost use mathlib.Core.Path.{_≡_};
-ghost use mathlib.Core.Bool.{_&&_};
 ghost use Prim.Native.Nat.{_+_, _<_, _≤_};
-ghost use lib.ListN.{length, drop};
+ghost use lib.ListN.{length};
 ghost use Rattle.words.specs.Choice.{every};
-ghost use Rattle.memory_map.specs.Region.{keepsRules, clear, endsInside};
-ghost use Rattle.memory_map.specs.Map.{regionsOf, regionAt, allKeepRules, emptyMap, wellFormed, sound, refused, add, additionOf};
+ghost use Rattle.memory_map.specs.Region.{endsInside};
+ghost use Rattle.memory_map.specs.Map.{regionsOf, allKeepRules, emptyMap, wellFormed, sound, refused, add, additionOf};
 ghost use Rattle.memory_map.specs.Lookup.{lookup, foundOf};
 ghost use Rattle.memory_map.specs.Entry.{runEntry, runEntryOf};
 use crate::answer::Entry;

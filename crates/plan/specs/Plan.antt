@@ -15,6 +15,12 @@ pub data Piece : Type 0 where
   fill : ℕ → ℕ → ℕ → Piece  -- address, length, word
   run : ℕ → Piece  -- address
 
+-- the bytes that a piece has in the plan
+abbrev pub dataOf : Piece → List ℕ
+dataOf (put a d) = d
+dataOf (fill a n w) = []
+dataOf (run a) = []
+
 -- "Header: count, offset of the piece table, offset of the data, length of the data."
 abbrev pub countOf : List ℕ → ℕ
 countOf s = littleEndianAt 4 s 0

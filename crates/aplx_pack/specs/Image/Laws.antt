@@ -7,8 +7,8 @@ use native.Mathlib.Omega.{arith}
 use lib.ListN.{length, take, drop, length-append, take-append-drop}
 use lib.Seq.{take-at, drop-at, drop-drop, drop-append-le}
 use Rattle.words.specs.Bytes.Laws.{length-littleEndian}
-use Rattle.plan.specs.Plan.{Piece, put, fill, run}
-use Rattle.aplx_pack.specs.Image.{entry, entryOf, dataOf, entries, datas, aplxImage}
+use Rattle.plan.specs.Plan.{Piece, put, fill, run, dataOf}
+use Rattle.aplx_pack.specs.Image.{entry, entryOf, entries, datas, aplxImage}
 
 -- ---- lengths
 pub length-entry : (c x y z : ℕ) → length (entry c x y z) ≡ 16

@@ -15,7 +15,7 @@ use Rattle.words.specs.Choice.{All}
 use Rattle.words.specs.Choice.Laws.{all-map, all-take, all-drop}
 use Rattle.words.specs.Bytes.{littleEndianAt, Bytes}
 use Rattle.words.specs.Bytes.Laws.{little-at-below}
-use Rattle.plan.specs.Plan.{Piece, put, fill, run, countOf, tableOf, dataAt, dataLength, Judged, good, bad, judgeRun, judgeFill, judgeData, judgePut, judgeKind, judgeAt, pieceAt, Read, refused, pieces, before, next, readPieces, readPlan}
+use Rattle.plan.specs.Plan.{Piece, put, fill, run, dataOf, countOf, tableOf, dataAt, dataLength, Judged, good, bad, judgeRun, judgeFill, judgeData, judgePut, judgeKind, judgeAt, pieceAt, Read, refused, pieces, before, next, readPieces, readPlan}
 
 -- ---- one step of reading k pieces, at the piece with index i
 module _ (unit : ℕ) (s : List ℕ) (k i : ℕ) where
@@ -124,12 +124,6 @@ abbrev pub Packable : ℕ → Piece → Type 0
 Packable unit (put a d) = Sized unit a (length d)
 Packable unit (fill a n w) = Sized unit a n × (w < 4294967296)
 Packable unit (run a) = (a < 4294967296) × (a % 4 ≡ 2 → ⊥)
-
--- the bytes that a piece has in the plan
-abbrev pub dataOf : Piece → List ℕ
-dataOf (put a d) = d
-dataOf (fill a n w) = []
-dataOf (run a) = []
 
 abbrev Accepted : ℕ → Piece → Type 0
 Accepted unit p = Packable unit p × Bytes (dataOf p)

@@ -9,9 +9,9 @@ use lib.Seq.{drop-at, drop-drop}
 use Rattle.words.specs.Choice.{All}
 use Rattle.words.specs.Bytes.{littleEndian, firstBytes, littleEndianAt}
 use Rattle.words.specs.Bytes.Laws.{little-at-drop, little-at-front}
-use Rattle.plan.specs.Plan.{Piece, put, fill, run}
+use Rattle.plan.specs.Plan.{Piece, put, fill, run, dataOf}
 use Rattle.plan.specs.Plan.Laws.{Packable}
-use Rattle.aplx_pack.specs.Image.{entry, entryOf, dataOf, entries, datas, aplxImage}
+use Rattle.aplx_pack.specs.Image.{entry, entryOf, entries, datas, aplxImage}
 use Rattle.aplx_pack.specs.Image.Laws.{length-entry, length-entryOf, length-entries, putBytes, length-aplxImage, tail, tail-step, image-tail, put-data}
 use Rattle.series.specs.Proof.Carries.{EntryAt, Says, Carries}
 
