@@ -2,7 +2,8 @@
 ghost use mathlib.Core.Path.{_≡_};
 ghost use Prim.Native.Nat.{_+_, _<_, _≤_};
 ghost use lib.ListN.{length};
-ghost use Rattle.words.specs.Choice.{every};
+ghost use lib.Dec.{leb};
+ghost use Rattle.words.specs.Choice.{if_then_else_, every};
 ghost use Rattle.memory_map.specs.Region.{endsInside};
 ghost use Rattle.memory_map.specs.Map.{regionsOf, allKeepRules, emptyMap, wellFormed, sound, refused, add, additionOf};
 ghost use Rattle.memory_map.specs.Lookup.{lookup, foundOf};
@@ -57,6 +58,12 @@ fn refused(map: Map) -> Addition
     }
 }
 
+fn least(a: u64, b: u64) -> u64
+    ensures { λ r. ⌜ r ≡ (if leb a b then a else b) ⌝ }
+{
+    if a <= b { a } else { b }
+}
+
 impl Map {
     pub fn empty() -> Map
         ensures { λ r. ⌜ r ≡ emptyMap ⌝ }
@@ -86,26 +93,32 @@ impl Map {
         if n < 8 { n } else { 8 }
     }
 
-    // Whether the regions in use keep every rule that needs no buffer: each its own, and each is clear of the later ones.
+    // Whether the regions in use keep every rule that needs no buffer: each its own, and each is clear of the later ones. From the last
+    // one on: a region that ends below `address` and `place`, below which no later one begins, is clear of them all.
     fn keeps_rules(self) -> bool
         ensures { λ r. ⌜ r ≡ allKeepRules (regionsOf self) ⌝ }
     {
+        let regions = self.regions;
         let n = self.used();
-        let mut i: usize = 0;
-        while i < n {
-            let region = self.regions[i];
+        let mut address: u64 = 4294967296;
+        let mut place: u64 = 4294967296;
+        let mut i = n;
+        while 0 < i {
+            i -= 1;
+            let region = regions[i];
             if !region.keeps_rules() {
                 return false;
             }
-            let mut j = i + 1;
+            let mut j = region.untested(address, place, i + 1, n);
             while j < n {
-                let other = self.regions[j];
+                let other = regions[j];
                 if !region.clear_of(other) {
                     return false;
                 }
                 j += 1;
             }
-            i += 1;
+            address = least(address, region.base as u64);
+            place = least(place, region.place as u64);
         }
         true
     }
@@ -124,9 +137,12 @@ impl Map {
     fn ends_inside(self, size: usize) -> bool
         ensures { λ r. ⌜ r ≡ every (endsInside size) (regionsOf self) ⌝ }
     {
-        let n = self.used();
+        let n = self.count;
         let mut i: usize = 0;
-        while i < n {
+        while i < 8 {
+            if n <= i {
+                return true;
+            }
             let region = self.regions[i];
             if !region.ends_inside(size) {
                 return false;
@@ -171,10 +187,11 @@ impl Map {
     pub fn lookup(self, right: Right, address: u32, length: u64) -> Found
         ensures { λ r. ⌜ foundOf r ≡ lookup self right address length ⌝ }
     {
+        let regions = self.regions;
         let n = self.used();
         let mut i: usize = 0;
         while i < n {
-            let region = self.regions[i];
+            let region = regions[i];
             if region.permits(right, address, length) {
                 return Found::At(region.place_of(address));
             }

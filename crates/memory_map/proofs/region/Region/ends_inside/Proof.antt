@@ -1,21 +1,22 @@
--- `memory_map::region::Region::ends_inside` meets its contract: the call answers the definition's test.
+-- `memory_map::region::Region::ends_inside` meets its contract.
+use mathlib.Core.Path.{refl}
 use borrow.Author.Needs.{needs}
 use Rattle.memory_map.specs.Region.{endsInside}
 use Rattle.memory_map.proofs.region.Region.ends_inside.Statement.{statement}
 use Rattle.memory_map.proofs.region.Region.ends_inside.Tie as tie
 
-cast-fits : tie.Need-cast-fits
-cast-fits c = search needs
+cast-result : tie.Need-cast-result
+cast-result c = search needs
 
-cast-fits-2 : tie.Need-cast-fits-2
-cast-fits-2 c = search needs
+cast-result-2 : tie.Need-cast-result-2
+cast-result-2 c = search needs
 
-fits-requires : tie.Need-fits-requires
-fits-requires c κs = search needs
+add-result : tie.Need-add-result
+add-result c = search needs
 
 returns : tie.Need-returns
 unfolding endsInside
-returns c = c .fits2 .ensures
+returns c = refl
 
 pub ends-inside-spec : {M : Type 1} → statement M
-ends-inside-spec = tie.close (tie.spec cast-fits cast-fits-2 fits-requires returns)
+ends-inside-spec = tie.close (tie.spec cast-result cast-result-2 add-result returns)
