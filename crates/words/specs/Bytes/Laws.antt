@@ -15,6 +15,13 @@ unfolding littleEndian
 length-littleEndian zero n = refl
 length-littleEndian (suc k) n = ap suc (length-littleEndian k (n / 256))
 
+-- the lowest bytes of more
+pub take-littleEndian : (j k n : ℕ) → j ≤ k → take j (littleEndian k n) ≡ littleEndian j n
+unfolding littleEndian
+take-littleEndian zero k n h = refl
+take-littleEndian (suc j) zero n h = absurd (omega arith)
+take-littleEndian (suc j) (suc k) n h = ap (λ (l : List ℕ). n % 256 ∷ l) (take-littleEndian j k (n / 256) (omega arith))
+
 pub length-bigEndian : (k n : ℕ) → length (bigEndian k n) ≡ k
 unfolding bigEndian
 length-bigEndian k n = length-reverse (littleEndian k n) ∙ length-littleEndian k n
