@@ -2,7 +2,7 @@
 use mathlib.Core.Path.{_≡_, refl, ap, sym, _∙_}
 use mathlib.Core.List.{List, [], _∷_, _++_, reverse, reverse-reverse}
 use Prim.Native.Nat.{ℕ, zero, suc, _+_, _*_, _-_, _/_, _%_, _^_, _≤_, _<_}
-use native.Mathlib.Nat.{pow-suc, div-div-eq-div-mul}
+use native.Mathlib.Nat.{add-zero, pow-suc, div-div-eq-div-mul}
 use native.Mathlib.Omega.{arith}
 use lib.ListN.{length, take, drop, getD, length-append, length-drop, length-reverse, drop-of-length-le}
 use lib.Seq.{drop-drop, drop-append-add, getD-drop, take-all, take-at}
@@ -14,6 +14,13 @@ pub length-littleEndian : (k n : ℕ) → length (littleEndian k n) ≡ k
 unfolding littleEndian
 length-littleEndian zero n = refl
 length-littleEndian (suc k) n = ap suc (length-littleEndian k (n / 256))
+
+-- the lowest bytes of more
+pub take-littleEndian : (j k n : ℕ) → j ≤ k → take j (littleEndian k n) ≡ littleEndian j n
+unfolding littleEndian
+take-littleEndian zero k n h = refl
+take-littleEndian (suc j) zero n h = absurd (omega arith)
+take-littleEndian (suc j) (suc k) n h = ap (λ (l : List ℕ). n % 256 ∷ l) (take-littleEndian j k (n / 256) (omega arith))
 
 pub length-bigEndian : (k n : ℕ) → length (bigEndian k n) ≡ k
 unfolding bigEndian
@@ -97,6 +104,10 @@ unfolding firstBytes
 first-four s =
     rw
     (first-one 3 s, first-one 2 (drop 1 s), drop-drop 1 1 s, first-one 1 (drop 2 s), drop-drop 1 2 s, first-one 0 (drop 3 s), getD-drop 1 s 0 0, getD-drop 2 s 0 0, getD-drop 3 s 0 0)
+
+-- at a place
+pub first-four-at : (p : ℕ) (s : List ℕ) → firstBytes 4 (drop p s) ≡ getD s p 0 ∷ getD s (p + 1) 0 ∷ getD s (p + 2) 0 ∷ getD s (p + 3) 0 ∷ []
+first-four-at p s = rw (first-four (drop p s), getD-drop p s 0 0, getD-drop p s 1 0, getD-drop p s 2 0, getD-drop p s 3 0, add-zero p)
 
 pub first-bytes : (k : ℕ) (s : List ℕ) → Bytes s → Bytes (firstBytes k s)
 unfolding firstBytes

@@ -1,13 +1,13 @@
 -- Laws of repeated words.
 use mathlib.Core.Path.{_≡_, refl, ap, _∙_}
 use mathlib.Core.List.{List, [], _∷_, _++_, append-assoc, append-nil}
-use Prim.Native.Nat.{ℕ, zero, suc, _+_, _-_, _*_, _/_, _%_}
+use Prim.Native.Nat.{ℕ, zero, suc, _+_, _-_, _*_, _/_, _%_, _≤_, _<_}
 use native.Mathlib.Nat.{zero-add}
 use native.Mathlib.Omega.{arith}
 use lib.ListN.{length, take, length-append}
-use lib.Seq.{take-at, length-take-le}
+use lib.Seq.{take-append-le, take-append-add, length-take-le}
 use Rattle.words.specs.Bytes.{littleEndian, Bytes}
-use Rattle.words.specs.Bytes.Laws.{length-littleEndian, bytes-of}
+use Rattle.words.specs.Bytes.Laws.{length-littleEndian, take-littleEndian, bytes-of}
 use Rattle.words.specs.Choice.Laws.{all-append, all-take}
 use Rattle.words.specs.Repeat.{repeated, filling}
 
@@ -30,13 +30,32 @@ pub length-filling : (n w : ℕ) → length (filling n w) ≡ n
 unfolding filling
 length-filling n w = length-take-le n (repeated n w) (omega (arith, length-repeated n w))
 
+-- fewer bytes than the first word has
+take-first : (j k w : ℕ) → j ≤ k → j < 4 → take j (repeated k w) ≡ littleEndian j w
+unfolding repeated littleEndian
+take-first zero k w h g = refl
+take-first (suc j) zero w h g = absurd (omega arith)
+take-first (suc j) (suc k) w h g =
+    take-append-le (suc j) (littleEndian 4 w) (repeated k w) (omega (arith, length-littleEndian 4 w))
+    ∙ take-littleEndian (suc j) 4 w (omega arith)
+
+-- the whole words, then the bytes behind them
+pub filling-split : (n w : ℕ) → filling n w ≡ repeated (n / 4) w ++ littleEndian (n % 4) w
+unfolding filling
+filling-split n w =
+    let d = repeated (n / 4) w in
+    let more = n - n / 4 in
+    let k : n ≡ n / 4 + more = omega arith in
+    let l : n ≡ length d + n % 4 = omega (arith, length-repeated (n / 4) w) in
+    ap (λ (j : ℕ). take n (repeated j w)) k
+    ∙ rw (repeated-add (n / 4) more w) (ap (λ (j : ℕ). take j (d ++ repeated more w)) l)
+    ∙ take-append-add d (repeated more w) (n % 4)
+    ∙ rw (take-first (n % 4) more w (omega arith) (omega arith))
+
 -- cut at a multiple of 4
 pub filling-whole : (n w : ℕ) → n % 4 ≡ 0 → filling n w ≡ repeated (n / 4) w
-unfolding filling
-filling-whole n w h =
-    let e : n ≡ n / 4 + (n - n / 4) = omega arith in
-    let l : length (repeated (n / 4) w) ≡ n = length-repeated (n / 4) w ∙ omega arith in
-    ap (λ (k : ℕ). take n (repeated k w)) e ∙ ap (λ (t : List ℕ). take n t) (repeated-add (n / 4) (n - n / 4) w) ∙ take-at _ _ n l
+unfolding littleEndian
+filling-whole n w h = rw (filling-split n w, h) (append-nil (repeated (n / 4) w))
 
 pub filling-bytes : (n w : ℕ) → Bytes (filling n w)
 unfolding filling repeated

@@ -1,9 +1,9 @@
--- `words::read::le_word` meets its contract: the four bytes are the first four.
+-- `words::read::short_le_word` meets its contract: the four bytes are the first four.
 use borrow.Author.Needs.{needs}
 use Rattle.words.specs.Bytes.Laws.{first-four}
 use Rattle.words.specs.Bytes.{littleEndianAt}
-use Rattle.words.proofs.read.le_word.Statement.{statement}
-use Rattle.words.proofs.read.le_word.Tie as tie
+use Rattle.words.proofs.read.short_le_word.Statement.{statement}
+use Rattle.words.proofs.read.short_le_word.Tie as tie
 
 byte-at-requires : tie.Need-byte-at-requires
 byte-at-requires c κs = search needs
@@ -24,8 +24,8 @@ returns : tie.Need-returns
 unfolding littleEndianAt
 returns c = simp (first-four, c .number-of-four .ensures, c .before .byte-at4 .ensures, c .before .before .byte-at3 .ensures, c .before .before .before .byte-at2 .ensures, c .before .before .before .before .byte-at .ensures)
 
-pub le-word-spec : {M : Type 1} → statement M
-le-word-spec =
+pub short-le-word-spec : {M : Type 1} → statement M
+short-le-word-spec =
     tie.close
     (tie.spec
     byte-at-requires

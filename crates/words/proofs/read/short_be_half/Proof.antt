@@ -1,0 +1,23 @@
+-- `words::read::short_be_half` meets its contract: the two bytes are the first two, reversed.
+use borrow.Author.Needs.{needs}
+use Rattle.words.specs.Bytes.Laws.{first-two}
+use Rattle.words.specs.Bytes.{bigEndianAt, fromBigEndian}
+use Rattle.words.proofs.read.short_be_half.Statement.{statement}
+use Rattle.words.proofs.read.short_be_half.Tie as tie
+
+byte-at-requires : tie.Need-byte-at-requires
+byte-at-requires c κs = search needs
+
+byte-at-requires-2 : tie.Need-byte-at-requires-2
+byte-at-requires-2 c κs = search needs
+
+number-of-two-requires : tie.Need-number-of-two-requires
+number-of-two-requires c κs = search needs
+
+returns : tie.Need-returns
+unfolding bigEndianAt fromBigEndian
+returns c = simp (first-two, c .number-of-two .ensures, c .before .byte-at2 .ensures, c .before .before .byte-at .ensures)
+
+pub short-be-half-spec : {M : Type 1} → statement M
+short-be-half-spec =
+    tie.close (tie.spec byte-at-requires byte-at-requires-2 number-of-two-requires returns)
