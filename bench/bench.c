@@ -11,7 +11,7 @@
 enum { KIB = 1024, MIB = 1024 * 1024, ROUNDS = 9 };
 #define SIZE ((size_t)33 * MIB)
 
-static uint8_t map[132], *ours, *theirs, *rom, *plan, *out1, *out2, packet[272], reply1[272], reply2[272];
+static uint8_t map[132], ascending[132], mixed[132], *ours, *theirs, *rom, *plan, *out1, *out2, packet[272], reply1[272], reply2[272];
 static size_t rom_length, plan_length, packet_length;
 static uint64_t outcome1[8], outcome2[8];
 static size_t limit_length;
@@ -146,6 +146,19 @@ static void make_packet(uint32_t command, uint32_t address, uint32_t length)
     packet_length = command == 3 ? 16 + length : 16;
 }
 
+/* the header's region, five small ones and two of 16 MiB, in this order; the last is the one that is used */
+static void make_map(uint8_t *table, const char *order)
+{
+    static const uint32_t regions[8][3] = {
+        {0x1000, 4096, 0},           {0x400000, 256, 0x40000}, {0x401000, 256, 0x41000},    {0x402000, 256, 0x42000},
+        {0x403000, 256, 0x43000},    {0x404000, 256, 0x44000}, {0x10000000, 16 * MIB, MIB}, {0x20000000, 16 * MIB, 17 * MIB},
+    };
+    for (; *order; order++) {
+        const uint32_t *g = regions[*order - '0'];
+        if (reidhintsje_map_add(table, 132, g[0], g[1], g[2], 7)) exit(2);
+    }
+}
+
 int main(void)
 {
     ours = malloc(SIZE);
@@ -158,12 +171,9 @@ int main(void)
     for (size_t i = 0; i < SIZE; i++) ours[i] = i * 13 + 1;
     memset(reply1, 0, 272);
     memset(reply2, 0, 272);
-    /* five small regions, the header's, and two of 16 MiB: the last is the eighth */
-    for (uint32_t i = 0; i < 5; i++)
-        if (reidhintsje_map_add(map, 132, 0x40000000 + 0x1000 * i, 256, 0x40000 + 0x1000 * i, 7)) return 2;
-    if (reidhintsje_map_add(map, 132, 0x1000, 4096, 0, 7)) return 2;
-    if (reidhintsje_map_add(map, 132, 0x10000000, 16 * MIB, MIB, 7)) return 2;
-    if (reidhintsje_map_add(map, 132, 0x20000000, 16 * MIB, 17 * MIB, 7)) return 2;
+    make_map(ascending, "01234567");
+    make_map(mixed, "12345067");
+    memcpy(map, ascending, 132);
 
     entries(1, 0x20000000, 0x10000000, 64 * KIB);
     row("APLX copy of 64 KiB", library_aplx, plain_aplx, limit_copy, "memcpy");
@@ -194,5 +204,9 @@ int main(void)
     row("SCP WRITE of 256 bytes", library_scp, plain_scp, 0, 0);
     make_packet(2, 0x20000000, 4);
     row("SCP READ of 4 bytes (map test and lookup)", library_scp, plain_scp, 0, 0);
+    memcpy(map, mixed, 132);
+    row("the same, regions in another order", library_scp, plain_scp, 0, 0);
+    make_packet(2, 0x20000000, 256);
+    row("SCP READ of 256 bytes, in another order", library_scp, plain_scp, 0, 0);
     return failed;
 }

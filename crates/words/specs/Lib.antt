@@ -3,6 +3,7 @@ pub mod Choice
 pub mod Bytes
 pub mod Swap
 pub mod Store
+pub mod Four
 pub mod Repeat
 pub mod Round
 pub mod Range

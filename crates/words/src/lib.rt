@@ -1,6 +1,7 @@
 // Bytes, words and ranges, as the loaders and packers need them. Each function answers for any input.
 pub mod read; // numbers out of bytes
 pub mod put; // numbers into bytes
+pub mod four; // four words at a time
 pub mod fill; // a word repeated
 pub mod swap; // words between Big and Little Endian
 pub mod range; // ranges that share a number, and lengths rounded up

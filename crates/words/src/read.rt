@@ -1,7 +1,8 @@
 // Numbers out of the bytes of a slice. Bytes past its end count as zero; where none is past it, one test comes before plain reads.
 ghost use mathlib.Core.Path.{_≡_};
 ghost use mathlib.Core.List.{[], _∷_};
-ghost use lib.ListN.{getD};
+ghost use Prim.Native.Nat.{_+_, _≤_};
+ghost use lib.ListN.{length, getD};
 ghost use Rattle.words.specs.Bytes.{fromLittleEndian, littleEndianAt, bigEndianAt};
 
 // The byte at a place, or zero past the end.
@@ -71,12 +72,20 @@ pub fn le_half(s: &[u8]) -> u16
     }
 }
 
+// The Little Endian number in four bytes that stand in the slice.
+pub(crate) fn whole_le_word(s: &[u8], at: usize) -> u32
+    requires { ⌜ at + 4 ≤ length (now s) ⌝ }
+    ensures { λ r. ⌜ r ≡ littleEndianAt 4 (now (s .entry)) at ⌝ }
+{
+    number_of_four(s[at], s[at + 1], s[at + 2], s[at + 3])
+}
+
 // The Little Endian number in the four bytes at an offset.
 pub fn le_word_at(s: &[u8], at: usize) -> u32
     ensures { λ r. ⌜ r ≡ littleEndianAt 4 (now (s .entry)) at ⌝ }
 {
     if crate::range::fits(at, 4, s.len()) {
-        number_of_four(s[at], s[at + 1], s[at + 2], s[at + 3])
+        whole_le_word(s, at)
     } else {
         short_le_word_at(s, at)
     }

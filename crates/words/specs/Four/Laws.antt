@@ -1,0 +1,52 @@
+-- Laws of four words.
+use mathlib.Core.Path.{_≡_, _∙_}
+use mathlib.Core.List.{List, _++_, append-assoc}
+use Prim.Native.Nat.{ℕ, _+_, _-_, _≤_}
+use native.Mathlib.Nat.{add-zero}
+use native.Mathlib.Omega.{arith}
+use lib.ListN.{length, take, drop, length-append, length-drop}
+use lib.Seq.{take-all}
+use Rattle.words.specs.Bytes.{littleEndian}
+use Rattle.words.specs.Bytes.Laws.{length-littleEndian, little-at-past, little-at-drop}
+use Rattle.words.specs.Store.{store, storeIfFits}
+use Rattle.words.specs.Store.Laws.{store-fits, store-behind}
+use Rattle.words.specs.Four.{fourAt, fourBytes}
+
+pub length-fourBytes : (a b c d : ℕ) → length (fourBytes a b c d) ≡ 16
+unfolding fourBytes
+length-fourBytes a b c d =
+    let i = littleEndian 4 a in
+    let j = littleEndian 4 b in
+    let k = littleEndian 4 c in
+    let l = littleEndian 4 d in
+    length-append i (j ++ (k ++ l)) ∙ omega (arith, length-append j (k ++ l), length-append k l, length-littleEndian 4 a, length-littleEndian 4 b, length-littleEndian 4 c, length-littleEndian 4 d)
+
+-- one word put behind the other
+pub four-put : (m : List ℕ) (p a b c d : ℕ) (r s t u : List ℕ) → p + 16 ≤ length m
+    → r ≡ storeIfFits m p (littleEndian 4 a) → s ≡ storeIfFits r (p + 4) (littleEndian 4 b)
+    → t ≡ storeIfFits s (p + 8) (littleEndian 4 c) → u ≡ storeIfFits t (p + 12) (littleEndian 4 d) → u ≡ store m p (fourBytes a b c d)
+unfolding fourBytes
+four-put m p a b c d r s t u h e f g k =
+    let w = littleEndian 4 a in
+    let x = littleEndian 4 b in
+    let y = littleEndian 4 c in
+    let n : length w ≡ 4 = length-littleEndian 4 a in
+    let o : length x ≡ 4 = length-littleEndian 4 b in
+    let q : length y ≡ 4 = length-littleEndian 4 c in
+    let i : length (w ++ x) ≡ 8 = length-append w x ∙ omega arith in
+    let j : length ((w ++ x) ++ y) ≡ 12 = length-append (w ++ x) y ∙ omega arith in
+    let one = e ∙ store-fits m p w (omega arith) in
+    let two = store-behind m p w x (p + 4) r s (omega arith) (omega arith) one f in
+    let three = store-behind m p (w ++ x) y (p + 8) s t (omega arith) (omega arith) two g in
+    store-behind m p ((w ++ x) ++ y) (littleEndian 4 d) (p + 12) t u (omega arith) (omega (arith, length-littleEndian 4 d)) three k ∙ simp append-assoc
+
+-- the four words of all that stands from place p on
+pub four-at-rest : (p : ℕ) (s : List ℕ) → fourAt (take (length s - p) (drop p s)) 0 ≡ fourAt s p
+four-at-rest p s =
+    rw (take-all (length s - p) (drop p s) (omega (arith, length-drop p s)))
+    (simp (little-at-drop 4 p 0 s, add-zero, little-at-drop 4 p 4 s, little-at-drop 4 p 8 s, little-at-drop 4 p 12 s))
+
+-- past the end
+pub four-past : (p : ℕ) (s : List ℕ) → length s ≤ p → fourAt s p ≡ record { first = 0; second = 0; third = 0; fourth = 0 }
+four-past p s h =
+    simp (little-at-past 4 p s h, little-at-past 4 (p + 4) s (omega arith), little-at-past 4 (p + 8) s (omega arith), little-at-past 4 (p + 12) s (omega arith))
