@@ -7,6 +7,7 @@ use lib.ListN.{length, take, drop, replicate}
 use Rattle.words.specs.Choice.{every}
 use Rattle.words.specs.Range.{meets}
 use Rattle.words.specs.Bytes.{littleEndian, fromLittleEndian, firstBytes, littleEndianAt}
+use Rattle.words.specs.Four.{fourBytes}
 use Rattle.words.specs.Store.{store}
 use Rattle.memory_map.specs.Outcome as load
 use Rattle.memory_map.specs.Outcome.{arm, thumb, end, unknown, run}
@@ -15,7 +16,7 @@ use Rattle.memory_map.specs.Map.{emptyMap, regionsOf, allKeepRules, wellFormed,
 use Rattle.plan.specs.Code as read
 use Rattle.plan.specs.Packed as packed
 use Rattle.scp.specs.Answer as scp
-use Rattle.c_api.specs.Table.{rightsOf, regionOf, regionIn, regionsIn, mapOf, regionWords, tableWith, verdictOn, tableAfter}
+use Rattle.c_api.specs.Table.{rightsOf, regionOf, regionIn, regionsIn, mapOf, tableWith, verdictOn, tableAfter}
 use Rattle.c_api.specs.Numbers.{loadNumbers, readNumbers, packNumbers, unitAt, replyNumbers}
 
 -- the empty map, and the tables after one and after two additions
@@ -49,7 +50,7 @@ record Tables : Type 0 where
   pub shared-bytes : tableAfter one 4348 64 256 7 ≡ one
 
 tables : Tables
-unfolding mapOf regionsIn regionIn regionOf rightsOf regionWords tableWith verdictOn tableAfter zeros one two add extended wellFormed allKeepRules sound regionsOf every keepsRules clear endsInside meets store littleEndian fromLittleEndian firstBytes littleEndianAt
+unfolding mapOf regionsIn regionIn regionOf rightsOf fourBytes tableWith verdictOn tableAfter zeros one two add extended wellFormed allKeepRules sound regionsOf every keepsRules clear endsInside meets store littleEndian fromLittleEndian firstBytes littleEndianAt
 tables =
     record {
       empty = refl;

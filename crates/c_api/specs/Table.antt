@@ -2,12 +2,13 @@
 -- regions of four words each, base, length, place and rights.
 pub mod Laws
 pub mod Added
-use mathlib.Core.List.{List, [], _∷_, _++_}
+use mathlib.Core.List.{List, [], _∷_}
 use Prim.Native.Nat.{ℕ, zero, suc, _+_, _*_, _/_, _%_}
 use lib.Dec.{eqb}
 use lib.ListN.{length, replicate}
 use Rattle.words.specs.Choice.{if_then_else_}
 use Rattle.words.specs.Bytes.{littleEndian, littleEndianAt}
+use Rattle.words.specs.Four.{fourBytes}
 use Rattle.words.specs.Store.{store}
 use Rattle.memory_map.specs.declared.region.Rights.{Rights}
 use Rattle.memory_map.specs.declared.region.Region.{Region}
@@ -47,8 +48,8 @@ mapOf t =
 
 -- ---- an addition
 -- the four words of a region; of the rights the three bits that say something
-unfoldable pub regionWords : ℕ → ℕ → ℕ → ℕ → List ℕ
-regionWords b n p w = littleEndian 4 b ++ (littleEndian 4 n ++ (littleEndian 4 p ++ littleEndian 4 (w % 8)))
+abbrev pub regionWords : ℕ → ℕ → ℕ → ℕ → List ℕ
+regionWords b n p w = fourBytes b n p (w % 8)
 
 -- the table with these four words behind its regions, and the count one higher
 unfoldable pub tableWith : List ℕ → List ℕ → List ℕ

@@ -1,6 +1,6 @@
 // A map as a table of 132 bytes.
 ghost use mathlib.Core.Path.{_≡_};
-ghost use Prim.Native.Nat.{_≤_, _<_};
+ghost use Prim.Native.Nat.{_<_};
 ghost use lib.ListN as list;
 ghost use Rattle.c_api.specs.Table.{rightsOf, regionOf, regionIn, countIn, mapOf, regionWords, tableWith, verdictNumber, verdictOn, tableAfter};
 use memory_map::map::Map;
@@ -34,13 +34,10 @@ fn region_of(base: u32, length: u32, place: u32, bits: u32) -> Region
 
 // The region whose four words stand at an offset.
 fn region_in(table: &[u8], at: usize) -> Region
-    requires { ⌜ at ≤ 132 ⌝ }
     ensures { λ r. ⌜ r ≡ regionIn (now (table .entry)) at ⌝ }
 {
-    let base = le_word_at(table, at);
-    let length = le_word_at(table, at + 4);
-    let place = le_word_at(table, at + 8);
-    region_of(base, length, place, le_word_at(table, at + 12))
+    let w = words::four::read(table, at);
+    region_of(w.first, w.second, w.third, w.fourth)
 }
 
 // The map that a table is; one of another length is no sound map.
@@ -74,10 +71,7 @@ fn put_region(table: &mut [u8], base: u32, length: u32, place: u32, bits: u32)
 {
     let count = le_word_at(table, 0);
     let at = 4 + 16 * (count as usize);
-    words::put::le_word(table, at, base);
-    words::put::le_word(table, at + 4, length);
-    words::put::le_word(table, at + 8, place);
-    words::put::le_word(table, at + 12, bits % 8);
+    words::four::put(table, at, base, length, place, bits % 8);
     words::put::le_word(table, 0, count + 1);
 }
 

@@ -9,6 +9,8 @@ use lib.ListN.{length, set, length-append}
 use Rattle.words.specs.Range.Laws.{Apart, before, behind, apart-part}
 use Rattle.words.specs.Bytes.{littleEndian, littleEndianAt}
 use Rattle.words.specs.Bytes.Laws.{length-littleEndian, little-at-same, little-at-behind, little-at-front}
+use Rattle.words.specs.Four.{fourBytes}
+use Rattle.words.specs.Four.Laws.{length-fourBytes}
 use Rattle.words.specs.Store.{store}
 use Rattle.words.specs.Store.Laws.{length-store, part-inside, part-outside}
 use Rattle.memory_map.specs.declared.region.Region.{Region}
@@ -51,10 +53,6 @@ word-behind i a s = rw (length-littleEndian 4 a) at (little-at-behind 4 i (littl
 word-alone : (a : ℕ) → a < 256 ^ 4 → littleEndianAt 4 (littleEndian 4 a) 0 ≡ a
 word-alone a h = rw (append-nil (littleEndian 4 a)) at (little-at-front 4 a [] h)
 
-length-words : (b n p w : ℕ) → length (regionWords b n p w) ≡ 16
-unfolding regionWords
-length-words b n p w = simp (length-append, length-littleEndian)
-
 even-more : (x y k : ℕ) → x ≡ y + 2 * k → y % 2 ≡ x % 2
 even-more x y k e = rw e (sym (add-mul-mod-self-left y 2 k))
 
@@ -74,10 +72,10 @@ pub record Words (b n p : ℕ) : Type 0 where
 
 region-stored : (t : List ℕ) (b n p w : ℕ) → Words b n p → (q : ℕ) → q + 16 ≤ length t
     → regionIn (store t q (regionWords b n p w)) q ≡ regionOf b n p w
-unfolding regionIn regionOf regionWords
+unfolding regionIn regionOf fourBytes
 region-stored t b n p w h q inside =
     let d = regionWords b n p w in
-    let l = length-words b n p w in
+    let l = length-fourBytes b n p (w % 8) in
     let x = word-inside t q d 0 (omega arith) (omega arith) in
     let y : littleEndianAt 4 (store t q d) (q + 4) ≡ n =
     word-inside t q d 4 (omega arith) (omega arith) ∙ word-behind 0 b (littleEndian 4 n ++ (littleEndian 4 p ++ littleEndian 4 (w % 8)))
@@ -114,7 +112,7 @@ module _ (t : List ℕ) (b n p w : ℕ) (h : Words b n p) (r : Room t) where
       let c = countIn t in
       let d = regionWords b n p w in
       let s = store t (4 + 16 * c) d in
-      let l = length-words b n p w in
+      let l = length-fourBytes b n p (w % 8) in
       let lc = length-littleEndian 4 (c + 1) in
       let x : length s ≡ 132 = length-store t (4 + 16 * c) d (omega (arith, r .whole, r .below)) ∙ r .whole in
       let y : length (store s 0 (littleEndian 4 (c + 1))) ≡ 132 = length-store s 0 (littleEndian 4 (c + 1)) (omega arith) ∙ x in

@@ -1,17 +1,18 @@
 -- Laws of tables: which map a table is, which table takes a region, and what the code's words make of it.
 use mathlib.Core.Path.{_≡_, refl, ap, sym, _∙_}
 use mathlib.Core.Bool.{Bool, true, false}
-use mathlib.Core.List.{List, _++_, append-assoc}
-use Prim.Native.Nat.{ℕ, _+_, _*_, _%_, _≤_, _<_}
+use mathlib.Core.List.{List}
+use Prim.Native.Nat.{ℕ, _+_, _*_, _%_, _<_}
 use native.Mathlib.Omega.{arith}
 use lib.Dec.{eqb, leb}
-use lib.ListN.{length, length-append}
+use lib.ListN.{length}
 use borrow.Author.Tests.{eq-eqb, ne-eqb, eqb-true, eqb-false, leb-true}
 use Rattle.words.specs.Choice.Laws.{both}
 use Rattle.words.specs.Bytes.{littleEndian}
 use Rattle.words.specs.Bytes.Laws.{length-littleEndian}
+use Rattle.words.specs.Four.Laws.{length-fourBytes}
 use Rattle.words.specs.Store.{store, storeIfFits}
-use Rattle.words.specs.Store.Laws.{length-store, store-fits, store-behind}
+use Rattle.words.specs.Store.Laws.{length-store, store-fits}
 use Rattle.memory_map.specs.declared.region.Region.{Region}
 use Rattle.memory_map.specs.declared.map.Map.{Map}
 use Rattle.memory_map.specs.declared.map.Addition as code-addition
@@ -66,32 +67,13 @@ pub told : (t : List ℕ) (b n p w : ℕ) (a : code-addition.Addition) → addit
 unfolding verdictOn
 told t b n p w a e = sym (ap (λ (x : Addition). x .verdict) e)
 
--- four words that the code puts one behind the other are one store
-module _ (t : List ℕ) (i : ℕ) (a b c d : List ℕ) (la : length a ≡ 4) (lb : length b ≡ 4) (lc : length c ≡ 4) (ld : length d ≡ 4) (fits : i + 16 ≤ length t) where
-  four-words : (u v x y : List ℕ) → u ≡ storeIfFits t i a → v ≡ storeIfFits u (i + 4) b → x ≡ storeIfFits v (i + 8) c
-      → y ≡ storeIfFits x (i + 12) d → y ≡ store t i (a ++ (b ++ (c ++ d)))
-  four-words u v x y e f g h =
-      let lab : length (a ++ b) ≡ 8 = simp (length-append, la, lb) in
-      let labc : length ((a ++ b) ++ c) ≡ 12 = simp (length-append, la, lb, lc) in
-      let one : u ≡ store t i a = e ∙ store-fits t i a (omega arith) in
-      let two = store-behind t i a b (i + 4) u v (omega arith) (omega arith) one f in
-      let three = store-behind t i (a ++ b) c (i + 8) v x (omega arith) (omega arith) two g in
-      let four = store-behind t i ((a ++ b) ++ c) d (i + 12) x y (omega arith) (omega arith) three h in
-      four ∙ simp append-assoc
-
 -- a region's words, and then the count
 module _ (t : List ℕ) (b n p w k : ℕ) (r : Room t) (is-count : k ≡ countIn t) where
-  pub words-put : {u v x y z : List ℕ} → u ≡ storeIfFits t (4 + 16 * k) (littleEndian 4 b)
-      → v ≡ storeIfFits u (4 + 16 * k + 4) (littleEndian 4 n)
-      → x ≡ storeIfFits v (4 + 16 * k + 8) (littleEndian 4 p)
-      → y ≡ storeIfFits x (4 + 16 * k + 12) (littleEndian 4 (w % 8))
-      → z ≡ storeIfFits y 0 (littleEndian 4 (k + 1)) → z ≡ tableWith t (regionWords b n p w)
-  unfolding tableWith regionWords
-  words-put {u} {v} {x} {y} {z} d e f g h =
-      let l = length-littleEndian 4 in
-      let fits : 4 + 16 * k + 16 ≤ length t = omega (arith, r .whole, r .below) in
-      let lw : length (regionWords b n p w) ≡ 16 = simp (length-append, length-littleEndian) in
-      let q : y ≡ store t (4 + 16 * k) (regionWords b n p w) =
-      four-words t (4 + 16 * k) (littleEndian 4 b) (littleEndian 4 n) (littleEndian 4 p) (littleEndian 4 (w % 8)) (l b) (l n) (l p) (l (w % 8)) fits u v x y d e f g in
-      let ly : length y ≡ length t = ap length q ∙ length-store t (4 + 16 * k) (regionWords b n p w) (omega arith) in
-      h ∙ store-fits y 0 (littleEndian 4 (k + 1)) (omega (arith, l (k + 1))) ∙ rw (q, is-count)
+  pub words-put : {u v : List ℕ} → u ≡ storeIfFits t (4 + 16 * k) (regionWords b n p w) → v ≡ storeIfFits u 0 (littleEndian 4 (k + 1))
+      → v ≡ tableWith t (regionWords b n p w)
+  unfolding tableWith
+  words-put {u} {v} e f =
+      let l = length-fourBytes b n p (w % 8) in
+      let q : u ≡ store t (4 + 16 * k) (regionWords b n p w) = e ∙ store-fits t (4 + 16 * k) (regionWords b n p w) (omega (arith, r .whole, r .below)) in
+      let s : length u ≡ length t = ap length q ∙ length-store t (4 + 16 * k) (regionWords b n p w) (omega (arith, r .whole, r .below)) in
+      f ∙ store-fits u 0 (littleEndian 4 (k + 1)) (omega (arith, length-littleEndian 4 (k + 1), r .whole)) ∙ rw (q, is-count)
