@@ -13,6 +13,7 @@ use Rattle.memory_map.specs.declared.region.Right.{Right}
 use Rattle.memory_map.specs.declared.map.Map.{Map}
 use Rattle.memory_map.specs.Region.{keepsRules, clear, permits, placeIn}
 use Rattle.memory_map.specs.Map.{noRegion, regionAt, regionsOf, allKeepRules}
+use Rattle.memory_map.specs.Map.Ascending.{follows, ascending}
 use Rattle.memory_map.specs.Lookup.{at, refused, lookupIn, lookup}
 use Rattle.memory_map.specs.Lookup.Laws.{lookup-computes}
 
@@ -55,7 +56,7 @@ module _ (m : Map) (i : ℕ) (whole : length (m .regions) ≡ 8) where
 
 module _ (m : Map) (i : ℕ) where
   -- the region at i, then those behind it
-  pub next : i < length (regionsOf m) → drop i (regionsOf m) ≡ regionAt m i ∷ drop (i + 1) (regionsOf m)
+  next : i < length (regionsOf m) → drop i (regionsOf m) ≡ regionAt m i ∷ drop (i + 1) (regionsOf m)
   unfolding regionsOf
   next h =
       let l : i < m .count = omega (arith, length-take (m .count) (m .regions)) in
@@ -90,6 +91,20 @@ module _ (m : Map) (i : ℕ) where
   pub rules-end : length (regionsOf m) ≤ i → allKeepRules (drop i (regionsOf m)) ≡ true
   unfolding allKeepRules
   rules-end h = rw (none h)
+
+  module _ (a p : ℕ) where
+    pub ascending-fails : i < length (regionsOf m) → follows a p (regionAt m i) ≡ false → ascending a p (drop i (regionsOf m)) ≡ false
+    unfolding ascending
+    ascending-fails h e = simp (next h, e)
+
+    pub ascending-goes : i < length (regionsOf m) → follows a p (regionAt m i) ≡ true → ascending a p (drop i (regionsOf m))
+        ≡ ascending (regionAt m i .base + regionAt m i .length) (regionAt m i .place + regionAt m i .length) (drop (i + 1) (regionsOf m))
+    unfolding ascending
+    ascending-goes h e = simp (next h, e)
+
+    pub ascending-end : length (regionsOf m) ≤ i → ascending a p (drop i (regionsOf m)) ≡ true
+    unfolding ascending
+    ascending-end h = rw (none h)
 
   module _ (r : Right) (a n : ℕ) where
     pub search-hits : i < length (regionsOf m) → permits (regionAt m i) r a n ≡ true → lookupIn (drop i (regionsOf m)) r a n ≡ at (placeIn (regionAt m i) a)

@@ -2,9 +2,9 @@
 ghost use mathlib.Core.Path.{_≡_};
 ghost use Prim.Native.Nat.{_+_, _<_, _≤_};
 ghost use lib.ListN.{length};
-ghost use lib.Dec.{leb};
-ghost use Rattle.words.specs.Choice.{if_then_else_, every};
+ghost use Rattle.words.specs.Choice.{every};
 ghost use Rattle.memory_map.specs.Region.{endsInside};
+ghost use Rattle.memory_map.specs.Map.Ascending.{ascending};
 ghost use Rattle.memory_map.specs.Map.{regionsOf, allKeepRules, emptyMap, wellFormed, sound, refused, add, additionOf};
 ghost use Rattle.memory_map.specs.Lookup.{lookup, foundOf};
 ghost use Rattle.memory_map.specs.Entry.{runEntry, runEntryOf};
@@ -58,12 +58,6 @@ fn refused(map: Map) -> Addition
     }
 }
 
-fn least(a: u64, b: u64) -> u64
-    ensures { λ r. ⌜ r ≡ (if leb a b then a else b) ⌝ }
-{
-    if a <= b { a } else { b }
-}
-
 impl Map {
     pub fn empty() -> Map
         ensures { λ r. ⌜ r ≡ emptyMap ⌝ }
@@ -93,34 +87,61 @@ impl Map {
         if n < 8 { n } else { 8 }
     }
 
-    // Whether the regions in use keep every rule that needs no buffer: each its own, and each is clear of the later ones. From the last
-    // one on: a region that ends below `address` and `place`, below which no later one begins, is clear of them all.
-    fn keeps_rules(self) -> bool
+    // Whether each region in use keeps its own rules, and begins where the one before it ends or behind that, in addresses and in places.
+    fn ascends(self) -> bool
+        ensures { λ r. ⌜ r ≡ ascending 0 0 (regionsOf self) ⌝ }
+    {
+        let n = self.count;
+        let mut address: u64 = 0;
+        let mut place: u64 = 0;
+        let mut i: usize = 0;
+        while i < 8 {
+            if n <= i {
+                return true;
+            }
+            let region = self.regions[i];
+            if !region.follows(address, place) {
+                return false;
+            }
+            address = region.base as u64 + region.length as u64;
+            place = region.place as u64 + region.length as u64;
+            i += 1;
+        }
+        true
+    }
+
+    // Whether each region in use keeps its own rules, and is clear of the later ones.
+    fn all_clear(self) -> bool
         ensures { λ r. ⌜ r ≡ allKeepRules (regionsOf self) ⌝ }
     {
-        let regions = self.regions;
         let n = self.used();
-        let mut address: u64 = 4294967296;
-        let mut place: u64 = 4294967296;
-        let mut i = n;
-        while 0 < i {
-            i -= 1;
-            let region = regions[i];
+        let mut i: usize = 0;
+        while i < n {
+            let region = self.regions[i];
             if !region.keeps_rules() {
                 return false;
             }
-            let mut j = region.untested(address, place, i + 1, n);
+            let mut j = i + 1;
             while j < n {
-                let other = regions[j];
+                let other = self.regions[j];
                 if !region.clear_of(other) {
                     return false;
                 }
                 j += 1;
             }
-            address = least(address, region.base as u64);
-            place = least(place, region.place as u64);
+            i += 1;
         }
         true
+    }
+
+    // Whether the regions in use keep every rule that needs no buffer. Regions that ascend do; only others are compared each with each.
+    fn keeps_rules(self) -> bool
+        ensures { λ r. ⌜ r ≡ allKeepRules (regionsOf self) ⌝ }
+    {
+        if self.ascends() {
+            return true;
+        }
+        self.all_clear()
     }
 
     // Whether the map keeps every rule that needs no buffer.

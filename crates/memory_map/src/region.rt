@@ -1,10 +1,6 @@
 // One region of memory.
 ghost use mathlib.Core.Path.{_≡_};
-ghost use mathlib.Core.Bool.{not, _&&_};
-ghost use Prim.Native.Nat.{_+_, _<_};
-ghost use lib.Dec.{leb};
-ghost use Rattle.words.specs.Choice.{if_then_else_};
-ghost use Rattle.words.specs.Range.{meets};
+ghost use Rattle.memory_map.specs.Map.Ascending.{follows};
 ghost use Rattle.memory_map.specs.Region.{allows, keepsRules, clear, endsInside, permits, placeIn};
 
 pub struct Rights {
@@ -25,17 +21,6 @@ pub struct Region {
     pub length: u32,
     pub place: u32,
     pub rights: Rights,
-}
-
-// Whether n numbers from a on and k numbers from b on, neither none, share no number.
-fn apart(a: u32, n: u32, b: u32, k: u32) -> bool
-    requires { ⌜ (0 < n) × (0 < k) ⌝ }
-    ensures { λ r. ⌜ r ≡ not (meets a n b k) ⌝ }
-{
-    if a as u64 + n as u64 <= b as u64 {
-        return true;
-    }
-    b as u64 + k as u64 <= a as u64
 }
 
 impl Region {
@@ -71,28 +56,40 @@ impl Region {
         base as u64 + length as u64 <= 4294967280
     }
 
-    // Whether it shares no address and no buffer byte with another. Neither is empty.
-    pub(crate) fn clear_of(self, other: Region) -> bool
-        requires { ⌜ (0 < self .length) × (0 < other .length) ⌝ }
-        ensures { λ r. ⌜ r ≡ clear self other ⌝ }
+    // Whether it keeps the rules, and begins at or behind an address and a place.
+    pub(crate) fn follows(self, address: u64, place: u64) -> bool
+        ensures { λ r. ⌜ r ≡ follows address place self ⌝ }
     {
-        if apart(self.base, self.length, other.base, other.length) {
-            return apart(self.place, self.length, other.place, other.length);
+        if (self.base as u64) < address {
+            return false;
         }
-        false
+        if (self.place as u64) < place {
+            return false;
+        }
+        self.keeps_rules()
     }
 
-    // The first index that is to be tested against it: `i`, or `n` where it ends at or before an address and a place.
-    pub(crate) fn untested(self, address: u64, place: u64, i: usize, n: usize) -> usize
-        ensures { λ r. ⌜ r ≡ (if leb (self .base + self .length) address && leb (self .place + self .length) place then n else i) ⌝ }
+    // Whether it shares no address and no buffer byte with another.
+    pub(crate) fn clear_of(self, other: Region) -> bool
+        ensures { λ r. ⌜ r ≡ clear self other ⌝ }
     {
-        let length = self.length as u64;
-        if self.base as u64 + length <= address {
-            if self.place as u64 + length <= place {
-                return n;
-            }
+        if words::range::share(
+            self.base as u64,
+            self.length as u64,
+            other.base as u64,
+            other.length as u64,
+        ) {
+            return false;
         }
-        i
+        if words::range::share(
+            self.place as u64,
+            self.length as u64,
+            other.place as u64,
+            other.length as u64,
+        ) {
+            return false;
+        }
+        true
     }
 
     // Whether it ends inside a buffer of so many bytes.

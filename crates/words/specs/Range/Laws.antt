@@ -1,6 +1,6 @@
 -- Laws of ranges.
 use mathlib.Core.Path.{_≡_, refl, sym, _∙_}
-use mathlib.Core.Bool.{Bool, true, false, not, _&&_}
+use mathlib.Core.Bool.{Bool, true, false, _&&_}
 use Prim.Native.Nat.{ℕ, suc, _+_, _-_, _≤_, _<_}
 use native.Mathlib.Omega.{arith}
 use lib.Dec.{ltb, leb}
@@ -97,15 +97,6 @@ module _ (a n b k : ℕ) where
       go : (t : Bool) → meets a n b k ≡ t → meets a n b k ≡ false
       go true e = absurd (none (meets-shared e))
       go false e = e
-
-  -- the first does not end before the second: they share none where the second ends before the first
-  pub misses-behind : 0 < n → 0 < k → b < a + n → leb (b + k) a ≡ not (meets a n b k)
-  unfolding meets
-  misses-behind p q h = go (leb (b + k) a) refl
-    where
-      go : (t : Bool) → leb (b + k) a ≡ t → leb (b + k) a ≡ not (ltb 0 n && ltb 0 k && ltb a (b + k) && ltb b (a + n))
-      go true e = simp (e, lt-ltb 0 n p, lt-ltb 0 k q, le-ltb a (b + k) (leb-true _ _ e))
-      go false e = simp (e, lt-ltb 0 n p, lt-ltb 0 k q, lt-ltb a (b + k) (leb-false _ _ e), lt-ltb b (a + n) h)
 
 -- a part of a range that is not met
 pub misses-part : (d n a k h l : ℕ) → a ≤ h → h + l ≤ a + k → meets d n a k ≡ false → meets d n h l ≡ false
