@@ -9,15 +9,13 @@ use lib.Seq.{length-take-le, take-add, take-at, take-suc, take-length, drop-cons
 use Rattle.words.specs.Store.{store}
 use Rattle.words.specs.Store.Laws.{length-store, store-adjoining, store-nil}
 use Rattle.plan.specs.declared.piece.Piece as code-piece
-use Rattle.plan.specs.declared.piece.Piece.the-variants.{Put, Fill, Run}
 use Rattle.plan.specs.Plan.{Piece, run, dataOf}
 use Rattle.plan.specs.Packed.{planPieces}
-use Rattle.plan.specs.Code.{pieceIs}
+use Rattle.plan.specs.Code.{putLength, pieceIs}
 use Rattle.plan.specs.Code.Packer.{Writable}
-use Rattle.plan.specs.Code.Laws.{data-length, Found}
+use Rattle.plan.specs.Code.Laws.{lengths, Found}
 use Rattle.aplx_pack.specs.Image.{entry, entryOf, entries, datas, aplxImage}
 use Rattle.aplx_pack.specs.Image.Laws.{length-entry, length-entryOf, length-entries, drop-entries, datas-append, datas-split}
-use Rattle.aplx_pack.specs.Code.{dataIs}
 use Rattle.aplx_pack.proofs.Writing.{front-grows, both-grow}
 
 -- the place of the data of piece i; the image's end where i is the count
@@ -48,22 +46,11 @@ module _ (ps : List Piece) (i : ℕ) (h : i < length ps) where
       rw (z, take-add (16 * i) 16 (entries 0 ps), drop-entries ps i 0 (omega arith), drop-cons ps i (run 0) h, ← o)
       (ap (λ (l : List ℕ). front ps i ++ l) (take-at (entryOf piece off) (entries (0 + k + length (dataOf piece)) qs) 16 (length-entryOf piece off)))
 
-most-data : (s : List ℕ) (p : code-piece.Piece) → Writable 32 s p → dataIs p ≤ 65536
-most-data s (Put a o n) w = w .2
-most-data s (Fill a n w) x = omega arith
-most-data s (Run a) w = omega arith
-
-same-data : (s : List ℕ) (p : code-piece.Piece) → Writable 32 s p → length (dataOf (pieceIs s p)) ≡ dataIs p
-same-data s (Put a o n) w = data-length s o n (w .0)
-same-data s (Fill a n w) x = refl
-same-data s (Run a) w = refl
-
 -- what writing the piece with index i needs and brings
 pub record Next (s : List ℕ) (i : ℕ) (p : code-piece.Piece) : Type 0 where
   pub writable : Writable 32 s p
-  pub most : dataIs p ≤ 65536
-  pub size : length (dataOf (pieceIs s p)) ≡ dataIs p
-  pub place : dataAt (planPieces 32 s) (i + 1) ≡ dataAt (planPieces 32 s) i + dataIs p
+  pub most : putLength p ≤ 65536
+  pub place : dataAt (planPieces 32 s) (i + 1) ≡ dataAt (planPieces 32 s) i + putLength p
   pub with-entry : front (planPieces 32 s) (i + 1) ≡ front (planPieces 32 s) i ++ entryOf (pieceIs s p) (dataAt (planPieces 32 s) i - 16 * i)
   pub with-data : datas (take (i + 1) (planPieces 32 s)) ≡ datas (take i (planPieces 32 s)) ++ dataOf (pieceIs s p)
 
@@ -71,11 +58,10 @@ pub next : (s : List ℕ) (i : ℕ) {p : code-piece.Piece} → i < length (planP
 next s i {p} h f =
     let ps = planPieces 32 s in
     let d = rw (f .same) at (data-more ps i h) in
-    let l = same-data s p (f .can-write) in
+    let l = lengths 32 s p (f .writable) in
     record {
-      writable = f .can-write;
-      most = most-data s p (f .can-write);
-      size = l;
+      writable = f .writable;
+      most = omega arith;
       place = omega (arith, ap length d ∙ length-append (datas (take i ps)) (dataOf (pieceIs s p)));
       with-entry = rw (f .same) at (front-more ps i h);
       with-data = d;
@@ -83,7 +69,7 @@ next s i {p} h f =
 
 -- ---- the image
 module _ (ps : List Piece) where
-  pub image-end : length (aplxImage ps) ≡ dataAt ps (length ps)
+  image-end : length (aplxImage ps) ≡ dataAt ps (length ps)
   unfolding aplxImage
   image-end = rw (take-length ps, length-append, length-entries) (omega arith)
 

@@ -4,10 +4,9 @@ ghost use Prim.Native.Nat.{_+_, _-_, _≤_, _<_};
 ghost use lib.ListN.{length};
 ghost use Rattle.words.specs.Store.{store};
 ghost use Rattle.plan.specs.Plan.{dataOf};
-ghost use Rattle.plan.specs.Code.{pieceIs};
+ghost use Rattle.plan.specs.Code.{putLength, pieceIs};
 ghost use Rattle.plan.specs.Code.Packer.{Writable};
 ghost use Rattle.aplx_pack.specs.Image.{entry, entryOf};
-ghost use Rattle.aplx_pack.specs.Code.{dataIs};
 use plan::piece::Piece;
 
 // Four words.
@@ -28,28 +27,9 @@ pub(crate) fn put_entry(
     words::put::le_word(output, at + 12, third);
 }
 
-// The bytes of a piece's data.
-pub(crate) fn data_size(piece: Piece) -> usize
-    ensures { λ r. ⌜ r ≡ dataIs piece ⌝ }
-{
-    match piece {
-        Piece::Put {
-            address: _,
-            from: _,
-            length,
-        } => length,
-        Piece::Fill {
-            address: _,
-            length: _,
-            word: _,
-        } => 0,
-        Piece::Run { address: _ } => 0,
-    }
-}
-
 // The entry of a piece of the plan, and its data at a place behind it.
 pub(crate) fn write_piece(plan: &[u8], piece: Piece, output: &mut [u8], at: usize, place: usize)
-    requires { ⌜ Writable 32 (now plan) piece × (at + 16 ≤ place) × (place < 4294967296) × (place + dataIs piece ≤ length (now output)) ⌝ }
+    requires { ⌜ Writable 32 (now plan) piece × (at + 16 ≤ place) × (place < 4294967296) × (place + putLength piece ≤ length (now output)) ⌝ }
     ensures { λ _. ⌜ now (output .exit) ≡ store (store (now (output .entry)) at (entryOf (pieceIs (now (plan .entry)) piece) (place - at))) place (dataOf (pieceIs (now (plan .entry)) piece)) ⌝ }
 {
     match piece {

@@ -80,7 +80,7 @@ loads = record { refusal = refl; at-end = refl; at-unknown = refl; at-arm = refl
 
 record Plans : Type 0 where
   pub not-read : readNumbers (read.refuses 11 2) ≡ 11 ∷ 2 ∷ 0 ∷ 0 ∷ 0 ∷ 0 ∷ 0 ∷ 0 ∷ []
-  pub read-whole : readNumbers (read.reads 5) ≡ 0 ∷ 0 ∷ 5 ∷ 0 ∷ 0 ∷ 0 ∷ 0 ∷ 0 ∷ []
+  pub read-whole : readNumbers (read.reads 5 64 32) ≡ 0 ∷ 0 ∷ 5 ∷ 0 ∷ 0 ∷ 0 ∷ 0 ∷ 0 ∷ []
   pub not-packed : packNumbers (packed.refusal 10 5) ≡ 10 ∷ 5 ∷ 0 ∷ 0 ∷ 0 ∷ 0 ∷ 0 ∷ 0 ∷ []
   pub packed-whole : packNumbers (packed.sized 48) ≡ 0 ∷ 0 ∷ 48 ∷ 0 ∷ 0 ∷ 0 ∷ 0 ∷ 0 ∷ []
   pub aplx : unitAt 0 ≡ 32

@@ -39,7 +39,7 @@ loadNumbers (load.accepted (run k a r) t b) = 0 ∷ 0 ∷ stopNumber k ∷ a ∷
 -- ---- plans: [2] the count of pieces, or the length of the image
 abbrev pub readNumbers : read.Outcome → List ℕ
 readNumbers (read.refuses n p) = refusalNumbers n p
-readNumbers (read.reads k) = countNumbers k
+readNumbers (read.reads k p f) = countNumbers k
 
 abbrev pub packNumbers : packed.Outcome → List ℕ
 packNumbers (packed.refusal n p) = refusalNumbers n p

@@ -86,7 +86,11 @@ pub(crate) fn put_read(outcome: &mut [u64; 8], answer: plan::read::Answer) -> u3
             *outcome = refusal_numbers(refusal);
             refusal.number
         }
-        plan::read::Answer::Pieces(count) => {
+        plan::read::Answer::Pieces {
+            count,
+            puts: _,
+            fills: _,
+        } => {
             *outcome = count_numbers(count);
             0
         }

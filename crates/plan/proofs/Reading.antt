@@ -1,38 +1,42 @@
 -- Steps of the loop over the pieces.
 use mathlib.Core.Path.{_≡_, refl, ap}
-use mathlib.Core.List.{List}
+use mathlib.Core.List.{List, _∷_}
 use Prim.Native.Nat.{ℕ, _+_, _-_, _≤_, _<_}
-use native.Mathlib.Nat.{zero-add, add-zero}
+use native.Mathlib.Nat.{zero-add, add-zero, add-assoc}
 use native.Mathlib.Omega.{arith}
 use lib.ListN.{length}
-use Rattle.plan.specs.Plan.{Piece, good, bad, pieceAt, Read, refused, pieces, before, readPieces}
+use Rattle.plan.specs.Plan.{Piece, dataOf, filledBy, putBytes, fillBytes, good, bad, pieceAt, Read, refused, pieces, before, readPieces}
 use Rattle.plan.specs.Plan.Laws.{read-good, read-bad, read-end}
 use Rattle.plan.specs.Code.{Outcome, refuses, reads, outcomeOf}
 
--- the outcome of what was read, after n good pieces before it
-abbrev pub counted : ℕ → Read → Outcome
-counted n (refused m i) = refuses m i
-counted n (pieces ps) = reads (n + length ps)
+-- the outcome of what was read, after n good pieces of p put bytes and f fill bytes
+abbrev pub counted : ℕ → ℕ → ℕ → Read → Outcome
+counted n p f (refused m i) = refuses m i
+counted n p f (pieces ps) = reads (n + length ps) (p + putBytes ps) (f + fillBytes ps)
 
-counted-none : (r : Read) → counted 0 r ≡ outcomeOf r
+counted-none : (r : Read) → counted 0 0 0 r ≡ outcomeOf r
 counted-none (refused m i) = refl
 counted-none (pieces ps) = simp zero-add
 
-counted-more : (n : ℕ) (p : Piece) (r : Read) → counted n (before p r) ≡ counted (n + 1) r
-counted-more n p (refused m i) = refl
-counted-more n p (pieces ps) = ap reads (omega arith)
+counted-more : (n p f : ℕ) (q : Piece) (r : Read) → counted n p f (before q r) ≡ counted (n + 1) (p + length (dataOf q)) (f + filledBy q) r
+unfolding putBytes fillBytes
+counted-more n p f q (refused m i) = refl
+counted-more n p f q (pieces ps) =
+    let z : n + length (q ∷ ps) ≡ n + 1 + length ps = omega arith in
+    simp (z, add-assoc)
 
 -- reading k pieces, at the start and at the piece with index i
-pub counts-start : (unit : ℕ) (s : List ℕ) (k : ℕ) → counted 0 (readPieces unit s (k - 0) 0) ≡ outcomeOf (readPieces unit s k 0)
+pub counts-start : (unit : ℕ) (s : List ℕ) (k : ℕ) → counted 0 0 0 (readPieces unit s (k - 0) 0) ≡ outcomeOf (readPieces unit s k 0)
 counts-start unit s k = let z : k - 0 ≡ k = omega arith in rw z (counted-none (readPieces unit s k 0))
 
-module _ (unit : ℕ) (s : List ℕ) (k i : ℕ) where
-  pub counts-good : {p : Piece} → i < k → pieceAt unit s i ≡ good p
-      → counted i (readPieces unit s (k - i) i) ≡ counted (i + 1) (readPieces unit s (k - (i + 1)) (i + 1))
-  counts-good {p} h e = rw (read-good unit s k i h e) (counted-more i p (readPieces unit s (k - (i + 1)) (i + 1)))
+module _ (unit : ℕ) (s : List ℕ) (k i p f : ℕ) where
+  pub counts-good : {q : Piece} → i < k → pieceAt unit s i ≡ good q
+      → counted i p f (readPieces unit s (k - i) i) ≡ counted (i + 1) (p + length (dataOf q)) (f + filledBy q) (readPieces unit s (k - (i + 1)) (i + 1))
+  counts-good {q} h e = rw (read-good unit s k i h e) (counted-more i p f q (readPieces unit s (k - (i + 1)) (i + 1)))
 
-  pub counts-bad : {n : ℕ} → i < k → pieceAt unit s i ≡ bad n → counted i (readPieces unit s (k - i) i) ≡ refuses n i
+  pub counts-bad : {n : ℕ} → i < k → pieceAt unit s i ≡ bad n → counted i p f (readPieces unit s (k - i) i) ≡ refuses n i
   counts-bad h e = rw (read-bad unit s k i h e)
 
-  pub counts-end : k ≤ i → counted i (readPieces unit s (k - i) i) ≡ reads i
+  pub counts-end : k ≤ i → counted i p f (readPieces unit s (k - i) i) ≡ reads i p f
+  unfolding putBytes fillBytes
   counts-end h = rw (read-end unit s k i h) (simp add-zero)

@@ -7,8 +7,9 @@ use lib.ListN.{length, take, replicate}
 use Rattle.words.specs.Bytes.{littleEndian}
 use Rattle.memory_map.specs.Lookup.{Lookup, lookupIn}
 use Rattle.plan.specs.declared.packed.Answer.the-variants as code-answer
+use Rattle.plan.specs.Code as reader
 use Rattle.plan.specs.Code.Packer.{outcomeIs}
-use Rattle.plan.specs.Plan.{Piece, put, fill, run, refused, pieces, readPlan}
+use Rattle.plan.specs.Plan.{Piece, put, fill, run, putBytes, fillBytes, refused, pieces, readPlan}
 use Rattle.plan.specs.Packed.{refuses, packs, packedAs, refusal, sized}
 use Rattle.plan.specs.Meaning.{ends, runs, denies, meaning}
 use Rattle.plan.specs.Open as group
@@ -73,6 +74,19 @@ plans = record {
   in-order = refl;
   second = refl;
 }
+
+-- two puts of 3 bytes in all, two fills of 12, and a run
+sizes : List Piece
+sizes = put 0 (7 ∷ 7 ∷ []) ∷ fill 8 4 9 ∷ run 5 ∷ fill 16 8 9 ∷ put 4 (7 ∷ []) ∷ []
+
+record Sums : Type 0 where
+  pub puts : putBytes sizes ≡ 3
+  pub fills : fillBytes sizes ≡ 12
+  pub whole : reader.outcomeOf (pieces sizes) ≡ reader.reads 5 3 12
+
+sums : Sums
+unfolding sizes putBytes fillBytes
+sums = record { puts = refl; fills = refl; whole = refl }
 
 -- 64 bytes at 4096 with every right
 find : Lookup

@@ -1,6 +1,7 @@
 -- The format of a plan and its reader (paper 01, "Plans"). Offsets and sums are whole numbers.
 pub mod Laws
 pub mod Unit
+pub mod Sums
 use mathlib.Core.Bool.{not, _&&_}
 use mathlib.Core.List.{List, [], _∷_}
 use Prim.Native.Nat.{ℕ, zero, suc, _+_, _*_, _%_}
@@ -20,6 +21,22 @@ abbrev pub dataOf : Piece → List ℕ
 dataOf (put a d) = d
 dataOf (fill a n w) = []
 dataOf (run a) = []
+
+-- the length that a piece fills
+abbrev pub filledBy : Piece → ℕ
+filledBy (put a d) = 0
+filledBy (fill a n w) = n
+filledBy (run a) = 0
+
+-- "the put lengths"
+unfoldable pub putBytes : List Piece → ℕ
+putBytes [] = 0
+putBytes (p ∷ ps) = length (dataOf p) + putBytes ps
+
+-- the "fill lengths"
+unfoldable pub fillBytes : List Piece → ℕ
+fillBytes [] = 0
+fillBytes (p ∷ ps) = filledBy p + fillBytes ps
 
 -- "Header: count, offset of the piece table, offset of the data, length of the data."
 abbrev pub countOf : List ℕ → ℕ

@@ -4,7 +4,7 @@ ghost use mathlib.Core.List.{List};
 ghost use Prim.Native.Nat.{ℕ, _%_};
 ghost use lib.Dec.{eqb};
 ghost use Rattle.plan.specs.Plan.{judgeRun, judgeFill, judgeData, judgePut, judgeKind, pieceAt};
-ghost use Rattle.plan.specs.Code.{unitOf, judgedIs, WithinData};
+ghost use Rattle.plan.specs.Code.{unitOf, putLength, fillLength, judgedIs, WithinData};
 use memory_map::answer::CUT_SHORT;
 use memory_map::answer::LENGTH_NOT_EXPRESSIBLE;
 use memory_map::answer::NOT_ALIGNED;
@@ -41,6 +41,44 @@ pub enum Piece {
 pub enum Judged {
     Good(Piece),
     Bad(u32),
+}
+
+// The length of a put; 0 for another piece.
+pub fn put_length(piece: Piece) -> usize
+    ensures { λ r. ⌜ r ≡ putLength piece ⌝ }
+{
+    match piece {
+        Piece::Put {
+            address: _,
+            from: _,
+            length,
+        } => length,
+        Piece::Fill {
+            address: _,
+            length: _,
+            word: _,
+        } => 0,
+        Piece::Run { address: _ } => 0,
+    }
+}
+
+// The length of a fill; 0 for another piece.
+pub(crate) fn fill_length(piece: Piece) -> usize
+    ensures { λ r. ⌜ r ≡ fillLength piece ⌝ }
+{
+    match piece {
+        Piece::Put {
+            address: _,
+            from: _,
+            length: _,
+        } => 0,
+        Piece::Fill {
+            address: _,
+            length,
+            word: _,
+        } => length,
+        Piece::Run { address: _ } => 0,
+    }
 }
 
 // Whether a length is a multiple of the medium's unit.

@@ -1,31 +1,42 @@
 // The whole plan.
 ghost use mathlib.Core.Path.{_≡_};
-ghost use Prim.Native.Nat.{ℕ, _≤_};
-ghost use Rattle.plan.specs.Plan.{countOf, readPieces, readPlan};
+ghost use Prim.Native.Nat.{_+_, _≤_};
+ghost use lib.ListN.{length};
+ghost use Rattle.plan.specs.Plan.{dataAt, dataLength, readPieces, readPlan};
 ghost use Rattle.plan.specs.Code.{unitOf, outcomeOf, outcomeIs};
 use crate::piece::Judged;
 use crate::piece::Target;
+use crate::piece::fill_length;
 use crate::piece::piece_at;
+use crate::piece::put_length;
 use memory_map::answer::CUT_SHORT;
 use memory_map::answer::PLAN_MALFORMED;
 use memory_map::answer::Refusal;
 use words::read::le_word_at;
 
-// The number of pieces, or the refusal.
+// The number of pieces, the sum of the put lengths and that of the fill lengths; or the refusal.
 pub enum Answer {
-    Pieces(usize),
+    Pieces {
+        count: usize,
+        puts: usize,
+        fills: usize,
+    },
     Refused(Refusal),
 }
 
 // The pieces, one after the other.
 fn read_pieces(plan: &[u8], target: Target, count: u32) -> Answer
-    requires { ⌜ count ≤ 64 ⌝ }
+    requires { ⌜ (count ≤ 64) × (dataAt (now plan) + dataLength (now plan) ≤ length (now plan)) ⌝ }
     ensures { λ r. ⌜ outcomeIs r ≡ outcomeOf (readPieces (unitOf target) (now (plan .entry)) count 0) ⌝ }
 {
+    let mut puts: usize = 0;
+    let mut fills: usize = 0;
     let mut i: u32 = 0;
     while i < count {
         match piece_at(plan, target, i) {
-            Judged::Good(_) => {
+            Judged::Good(piece) => {
+                puts += put_length(piece);
+                fills += fill_length(piece);
                 i += 1;
             }
             Judged::Bad(number) => {
@@ -36,7 +47,11 @@ fn read_pieces(plan: &[u8], target: Target, count: u32) -> Answer
             }
         }
     }
-    Answer::Pieces(count as usize)
+    Answer::Pieces {
+        count: count as usize,
+        puts,
+        fills,
+    }
 }
 
 // Reads a plan: its header, and the tests of every piece.

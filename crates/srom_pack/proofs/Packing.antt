@@ -12,23 +12,18 @@ use Rattle.plan.specs.declared.piece.Piece as code-piece
 use Rattle.plan.specs.declared.piece.Piece.the-variants.{Put, Fill, Run}
 use Rattle.plan.specs.Plan.{Piece, run}
 use Rattle.plan.specs.Packed.{planPieces}
-use Rattle.plan.specs.Code.{pieceIs}
+use Rattle.plan.specs.Code.{putLength, fillLength, pieceIs}
 use Rattle.plan.specs.Code.Packer.{Writable}
-use Rattle.plan.specs.Code.Laws.{data-length, Found}
+use Rattle.plan.specs.Code.Laws.{lengths, Found}
 use Rattle.srom_pack.specs.Image.{blockOf, blocks, sromImage, blockAt}
 use Rattle.srom_pack.specs.Image.Laws.{bytesOf, blocks-append, next-block, end-place}
 use Rattle.srom_pack.specs.Code.{bytesIs}
 
 -- ---- the next block
-most-bytes : (s : List ℕ) (p : code-piece.Piece) → Writable 4 s p → bytesIs p ≤ 65536
-most-bytes s (Put a o n) w = w .2
-most-bytes s (Fill a n w) x = x .1
-most-bytes s (Run a) w = omega arith
-
-same-bytes : (s : List ℕ) (p : code-piece.Piece) → Writable 4 s p → bytesIs p ≡ bytesOf (pieceIs s p)
-same-bytes s (Put a o n) w = sym (data-length s o n (w .0))
-same-bytes s (Fill a n w) x = refl
-same-bytes s (Run a) w = refl
+both-lengths : (p : code-piece.Piece) → bytesIs p ≡ putLength p + fillLength p
+both-lengths (Put a o n) = omega arith
+both-lengths (Fill a n w) = omega arith
+both-lengths (Run a) = omega arith
 
 blocks-more : (ps : List Piece) (p : Piece) → blocks (ps ++ p ∷ []) ≡ blocks ps ++ blockOf p
 unfolding blocks
@@ -45,16 +40,19 @@ pub next : (s : List ℕ) (i : ℕ) {p : code-piece.Piece} → i < length (planP
 next s i {p} h f =
     let ps = planPieces 4 s in
     let piece = getD ps i (run 0) in
+    let l = lengths 4 s p (f .writable) in
+    let b = both-lengths p in
+    let e : bytesIs p ≡ bytesOf (pieceIs s p) = omega arith in
     record {
-      writable = f .can-write;
-      most = most-bytes s p (f .can-write);
-      place = rw (add-one i, same-bytes s p (f .can-write), ← f .same) (next-block ps i piece (drop (suc i) ps) (drop-cons ps i (run 0) h));
+      writable = f .writable;
+      most = omega arith;
+      place = rw (add-one i, e, ← f .same) (next-block ps i piece (drop (suc i) ps) (drop-cons ps i (run 0) h));
       block = rw (add-one i, take-suc ps i (run 0) h, ← f .same) (blocks-more (take i ps) piece);
     }
 
 -- ---- the image
 module _ (ps : List Piece) where
-  pub image-end : length (sromImage ps) ≡ 1 + blockAt ps (length ps)
+  image-end : length (sromImage ps) ≡ 1 + blockAt ps (length ps)
   unfolding sromImage blockAt
   image-end = rw (take-length ps) (simp length-append (omega arith))
 

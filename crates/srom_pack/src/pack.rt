@@ -12,27 +12,6 @@ use plan::packed::Answer;
 use plan::piece::Judged;
 use plan::piece::Target;
 
-// The length of the image of a plan with so many pieces.
-fn image_size(plan: &[u8], count: u32) -> usize
-    requires { ⌜ Accepted 4 (now plan) × (count ≡ length (planPieces 4 (now plan))) × (count ≤ 64) ⌝ }
-    ensures { λ r. ⌜ r ≡ length (sromImage (planPieces 4 (now (plan .entry)))) ⌝ }
-{
-    let mut size: usize = 2;
-    let mut i: u32 = 0;
-    while i < count {
-        match plan::piece::piece_at(plan, Target::Srom, i) {
-            Judged::Good(piece) => {
-                size += crate::block::size_of(piece);
-                i += 1;
-            }
-            Judged::Bad(_) => {
-                return size;
-            }
-        }
-    }
-    size
-}
-
 // The image of a plan with so many pieces, at the output's front.
 fn write_image(plan: &[u8], count: u32, output: &mut [u8])
     requires { ⌜ Accepted 4 (now plan) × (count ≡ length (planPieces 4 (now plan))) × (count ≤ 64) × (length (sromImage (planPieces 4 (now plan))) ≤ length (now output)) ⌝ }
@@ -63,16 +42,15 @@ pub fn pack(plan: &[u8], output: &mut [u8]) -> Answer
 {
     match plan::read::read(plan, Target::Srom) {
         plan::read::Answer::Refused(refusal) => Answer::Refused(refusal),
-        plan::read::Answer::Pieces(pieces) => {
-            let count = pieces as u32;
-            let size = image_size(plan, count);
+        plan::read::Answer::Pieces { count, puts, fills } => {
+            let size = 2 + 7 * count + puts + fills;
             if output.len() < size {
                 return Answer::Refused(Refusal {
                     number: OUTPUT_TOO_SMALL,
-                    place: pieces,
+                    place: count,
                 });
             }
-            write_image(plan, count, output);
+            write_image(plan, count as u32, output);
             Answer::Packed { size }
         }
     }

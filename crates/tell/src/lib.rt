@@ -178,8 +178,12 @@ pub fn reply(r: Reply) {
 pub fn pieces(a: read::Answer) {
     match a {
         read::Answer::Refused(r) => refusal(r),
-        read::Answer::Pieces(n) => {
-            number(n as u64);
+        read::Answer::Pieces {
+            count,
+            puts: _,
+            fills: _,
+        } => {
+            number(count as u64);
             text(b" pieces\n");
         }
     }

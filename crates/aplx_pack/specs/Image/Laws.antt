@@ -7,7 +7,7 @@ use native.Mathlib.Omega.{arith}
 use lib.ListN.{length, take, drop, length-append, take-append-drop}
 use lib.Seq.{take-at, drop-at, drop-drop, drop-append-le}
 use Rattle.words.specs.Bytes.Laws.{length-littleEndian}
-use Rattle.plan.specs.Plan.{Piece, put, fill, run, dataOf}
+use Rattle.plan.specs.Plan.{Piece, put, fill, run, dataOf, putBytes}
 use Rattle.aplx_pack.specs.Image.{entry, entryOf, entries, datas, aplxImage}
 
 -- ---- lengths
@@ -25,11 +25,6 @@ pub length-entries : (k : ℕ) (ps : List Piece) → length (entries k ps) ≡ 1
 unfolding entries
 length-entries k [] = length-entry 0xffffffff 0 0 0
 length-entries k (p ∷ ps) = rw (length-append, length-entryOf, length-entries (k + length (dataOf p)) ps) (omega arith)
-
--- the lengths of the puts
-unfoldable pub putBytes : List Piece → ℕ
-putBytes [] = 0
-putBytes (p ∷ ps) = length (dataOf p) + putBytes ps
 
 pub length-datas : (ps : List Piece) → length (datas ps) ≡ putBytes ps
 unfolding datas putBytes

@@ -10,9 +10,8 @@ use lib.Dec.{ltb, eqb}
 use lib.ListN.{length, take, drop, getD, length-drop}
 use lib.Seq.{length-take-le}
 use borrow.Author.Tests.{ltb-false, eqb-true, eqb-false, not-false}
-use Rattle.words.specs.Choice.Laws.{from-else, from-either}
 use Rattle.words.specs.Choice.{All}
-use Rattle.words.specs.Choice.Laws.{all-map, all-take, all-drop}
+use Rattle.words.specs.Choice.Laws.{from-else, from-either, all-map, all-take, all-drop}
 use Rattle.words.specs.Bytes.{littleEndianAt, Bytes}
 use Rattle.words.specs.Bytes.Laws.{little-at-below}
 use Rattle.plan.specs.Plan.{Piece, put, fill, run, dataOf, countOf, tableOf, dataAt, dataLength, Judged, good, bad, judgeRun, judgeFill, judgeData, judgePut, judgeKind, judgeAt, pieceAt, Read, refused, pieces, before, next, readPieces, readPlan}
@@ -188,6 +187,9 @@ module _ (unit : ℕ) (s : List ℕ) (b : Bytes s) where
       from-either (eqb k 1) (put-accepted unit s a n w low b h)
       (from-either (eqb k 2) (fill-accepted unit s a n w low (little-at-below 4 (o + 12) s b))
       (from-either (eqb k 3) (run-accepted unit s a n w low) (λ e. absurd (bad-no-good e))))
+
+  pub piece-packable : dataAt s + dataLength s ≤ length s → (i : ℕ) (p : Piece) → pieceAt unit s i ≡ good p → Packable unit p
+  piece-packable h i p e = piece-accepted h i p e .0
 
   accepted : {ps : List Piece} → readPlan unit s ≡ pieces ps → All (Accepted unit) ps
   accepted e =

@@ -32,10 +32,11 @@ use Rattle.srom.specs.Load.{storeBlocks, look, loadWith}
 use Rattle.srom.specs.Load.Laws.{sound-load}
 use Rattle.plan.specs.Plan.{Piece, put, fill, run}
 use Rattle.plan.specs.Plan.Laws.{Sized, Packable}
+use Rattle.plan.specs.Plan.Sums.{bytes-most}
 use Rattle.plan.specs.Meaning.{ranged, entered, storeAt, permit, effect, effects, stretch, Finish, runs, or-deny, finish, meant, meaning}
 use Rattle.srom_pack.specs.Image.{block, blockOf, blocks, sromImage, blockAt}
 use Rattle.srom_pack.specs.Image.Laws as image
-use Rattle.srom_pack.specs.Image.Laws.{length-block, length-blockOf, bytesIn, length-sromImage, drop-next, at-piece, next-block, first-block}
+use Rattle.srom_pack.specs.Image.Laws.{length-block, length-blockOf, length-sromImage, drop-next, at-piece, next-block, first-block}
 use Rattle.series.specs.Series.{Left}
 use Rattle.series.specs.Medium.{srom, startOf, endingIn}
 use Rattle.series.specs.Software.{ours}
@@ -170,14 +171,6 @@ module _ (find : Lookup) (ps : List Piece) (i : ℕ) (old : List ℕ) where
   walks (run a ∷ qs) j e c m = run-step j a qs e (c .0 .0) m
 
 -- ---- one load
--- the image's length is under the limit of 13
-bytes-most : (ps : List Piece) → All (Packable 4) ps → bytesIn ps ≤ 65536 * length ps
-unfolding bytesIn
-bytes-most [] c = omega arith
-bytes-most (put a d ∷ ps) c = omega (arith, c .0 .most, bytes-most ps (c .1))
-bytes-most (fill a n w ∷ ps) c = omega (arith, c .0 .0 .most, bytes-most ps (c .1))
-bytes-most (run a ∷ ps) c = omega (arith, bytes-most ps (c .1))
-
 module _ (map : Map) (ps : List Piece) (few : length ps ≤ 64) (good : All (Packable 4) ps) (m : List ℕ) (safe : sound map (length m) ≡ true) where
   from-block : (i : ℕ) → done (walk (lookup map) (sromImage ps) (blockAt ps i)) m m ≡ means srom map ps i m
   unfolding meaning
@@ -192,8 +185,9 @@ module _ (map : Map) (ps : List Piece) (few : length ps ≤ 64) (good : All (Pac
   from-start zero = rw from-pad (from-block 0)
   from-start (suc i) = from-block (suc i)
 
+  -- the image's length is under the limit of 13
   pub srom-load : (i : ℕ) → loads ours srom map ps (sromImage ps) i m ≡ means srom map ps i m
   unfolding loadWith look
   srom-load i =
-      let short : length (sromImage ps) ≤ 16777216 = omega (arith, length-sromImage ps, bytes-most ps good) in
+      let short : length (sromImage ps) ≤ 16777216 = omega (arith, length-sromImage ps, bytes-most 4 ps good) in
       rw (sound-load map (sromImage ps) (startOf srom ps i) m safe, le-ltb 16777216 (length (sromImage ps)) short, ending-at) (from-start i)

@@ -11,8 +11,9 @@ use Rattle.words.specs.Bytes.{littleEndian, firstBytes, littleEndianAt}
 use Rattle.words.specs.Bytes.Laws.{little-at-drop, little-at-front}
 use Rattle.plan.specs.Plan.{Piece, put, fill, run, dataOf}
 use Rattle.plan.specs.Plan.Laws.{Packable}
+use Rattle.plan.specs.Plan.Sums.{bytes-most}
 use Rattle.aplx_pack.specs.Image.{entry, entryOf, entries, datas, aplxImage}
-use Rattle.aplx_pack.specs.Image.Laws.{length-entry, length-entryOf, length-entries, putBytes, length-aplxImage, tail, tail-step, image-tail, put-data}
+use Rattle.aplx_pack.specs.Image.Laws.{length-entry, length-entryOf, length-entries, length-aplxImage, tail, tail-step, image-tail, put-data}
 use Rattle.series.specs.Proof.Carries.{EntryAt, Says, Carries}
 
 -- an image in which this stands from offset k on
@@ -83,12 +84,5 @@ pub packed-carries : (ps : List Piece) → length (aplxImage ps) ≤ 4294967280 
 packed-carries ps most g = carries-tail (aplxImage ps) 0 [] ps (image-tail ps) (omega arith) (omega arith) most g
 
 -- ---- the image of pieces that a plan may have is that short
-bytes-most : (ps : List Piece) → All (Packable 32) ps → putBytes ps ≤ 65536 * length ps
-unfolding putBytes
-bytes-most [] g = omega arith
-bytes-most (put a b ∷ ps) g = omega (arith, g .0 .most, bytes-most ps (g .1))
-bytes-most (fill a n w ∷ ps) g = omega (arith, bytes-most ps (g .1))
-bytes-most (run a ∷ ps) g = omega (arith, bytes-most ps (g .1))
-
 pub image-short : (ps : List Piece) → length ps ≤ 64 → All (Packable 32) ps → length (aplxImage ps) ≤ 4294967280
-image-short ps few g = omega (arith, length-aplxImage ps, bytes-most ps g)
+image-short ps few g = omega (arith, length-aplxImage ps, bytes-most 32 ps g)

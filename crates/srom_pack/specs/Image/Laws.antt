@@ -10,7 +10,7 @@ use Rattle.words.specs.Bytes.Laws.{length-bigEndian}
 use Rattle.words.specs.Repeat.{filling}
 use Rattle.words.specs.Repeat.Laws.{length-filling}
 use Rattle.words.specs.Swap.Laws.{length-swap}
-use Rattle.plan.specs.Plan.{Piece, put, fill, run}
+use Rattle.plan.specs.Plan.{Piece, put, fill, run, dataOf, filledBy, putBytes, fillBytes}
 use Rattle.srom_pack.specs.Image.{block, blockOf, blocks, sromImage, blockAt}
 
 -- ---- lengths
@@ -20,27 +20,21 @@ length-block a d = simp (length-append, length-bigEndian, length-swap) (omega ar
 
 -- the bytes that a piece stores
 abbrev pub bytesOf : Piece → ℕ
-bytesOf (put a d) = length d
-bytesOf (fill a n w) = n
-bytesOf (run a) = 0
-
-unfoldable pub bytesIn : List Piece → ℕ
-bytesIn [] = 0
-bytesIn (p ∷ ps) = bytesOf p + bytesIn ps
+bytesOf p = length (dataOf p) + filledBy p
 
 pub length-blockOf : (p : Piece) → length (blockOf p) ≡ 7 + bytesOf p
 unfolding blockOf
-length-blockOf (put a d) = length-block a d
-length-blockOf (fill a n w) = rw (length-block a (filling n w), length-filling n w)
+length-blockOf (put a d) = rw (length-block a d) (omega arith)
+length-blockOf (fill a n w) = rw (length-block a (filling n w), length-filling n w) (omega arith)
 length-blockOf (run a) = length-block a []
 
-pub length-blocks : (ps : List Piece) → length (blocks ps) ≡ 7 * length ps + bytesIn ps
-unfolding blocks bytesIn
+pub length-blocks : (ps : List Piece) → length (blocks ps) ≡ 7 * length ps + putBytes ps + fillBytes ps
+unfolding blocks putBytes fillBytes
 length-blocks [] = refl
 length-blocks (p ∷ ps) = rw (length-append, length-blockOf p, length-blocks ps) (omega arith)
 
 -- "Length: 2 + 7 per piece + the put and fill lengths."
-pub length-sromImage : (ps : List Piece) → length (sromImage ps) ≡ 2 + 7 * length ps + bytesIn ps
+pub length-sromImage : (ps : List Piece) → length (sromImage ps) ≡ 2 + 7 * length ps + putBytes ps + fillBytes ps
 unfolding sromImage
 length-sromImage ps = simp (length-append, length-blocks) (omega arith)
 

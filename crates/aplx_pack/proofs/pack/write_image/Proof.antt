@@ -64,11 +64,11 @@ write-piece-requires c κs =
     let ps = planPieces 32 (k .before .before .before .args .plan .now) in
     (n .writable, omega arith, omega arith, omega (arith, n .place, data-inside ps (k .loop .i + 1)))
 
-data-size-requires : tie.Need-data-size-requires Inv-loop μ-loop
-data-size-requires c κs = search needs
+put-length-requires : tie.Need-put-length-requires Inv-loop μ-loop
+put-length-requires c κs = search needs
 
 add-place-2 : tie.Need-add-place-2 Inv-loop μ-loop
-add-place-2 c = let n = next-piece (c .before .before .before .before .before) in omega (arith, n .most, c .data-size .ensures)
+add-place-2 c = let n = next-piece (c .before .before .before .before .before) in omega (arith, n .most, c .put-length .ensures)
 
 add-i : tie.Need-add-i Inv-loop μ-loop
 add-i c = omega arith
@@ -138,7 +138,7 @@ write-image-spec =
     cast-write-piece
     mul-write-piece
     write-piece-requires
-    data-size-requires
+    put-length-requires
     add-place-2
     add-i
     loop-less

@@ -1,29 +1,63 @@
--- `plan::read::read_pieces` meets its contract: the loop's invariant: the good pieces before `i`, with what reading the rest gives, have the outcome of the whole.
+-- `plan::read::read_pieces` meets its contract: the loop's invariant: the good pieces before `i` and their sums, with what reading the rest gives, have the outcome of the whole.
 use mathlib.Core.Path.{_≡_, ap, sym, _∙_}
+use Prim.Native.Nat.{_+_, _-_, _*_, _≤_}
 use native.Mathlib.Omega.{arith}
 use borrow.Author.Needs.{needs}
-use Prim.Native.Nat.{_-_, _≤_}
-use Rattle.plan.specs.Plan.{readPieces}
-use Rattle.plan.specs.Code.{unitOf, judgedIs, outcomeOf}
+use Rattle.words.specs.Choice.Laws.{all-elements}
+use Rattle.words.specs.Bytes.{Bytes}
+use lib.ListN.{length}
+use Rattle.plan.specs.Plan.{dataOf, filledBy, good, pieceAt, readPieces}
+use Rattle.plan.specs.Code.{unitOf, pieceIs, judgedIs, outcomeOf}
+use Rattle.plan.specs.Code.Laws.{can-write, Lengths, lengths}
 use Rattle.plan.proofs.Reading.{counted, counts-start, counts-good, counts-bad, counts-end}
 use Rattle.plan.proofs.read.read_pieces.Statement.{statement}
 use Rattle.plan.proofs.read.read_pieces.Tie as tie
 
 abbrev Inv-loop : tie.InvT-loop
-Inv-loop plan target count i₀ i = (counted i (readPieces (unitOf target) plan (count - i) i) ≡ outcomeOf (readPieces (unitOf target) plan count 0)) × (i ≤ count)
+Inv-loop plan target count puts₀ fills₀ i₀ puts fills i =
+    (counted i puts fills (readPieces (unitOf target) plan (count - i) i) ≡ outcomeOf (readPieces (unitOf target) plan count 0)) × ((puts + fills ≤ 65536 * i) × (i ≤ count))
 
 abbrev μ-loop : tie.MeasureT-loop
-μ-loop plan target count i₀ i = count - i
+μ-loop plan target count puts₀ fills₀ i₀ puts fills i = count - i
 
 loop-holds : tie.Need-loop-holds Inv-loop μ-loop
 loop-holds c = let x = c .before .args in
-    (counts-start (unitOf (x .target)) (x .plan .now) (x .count), omega arith)
+    (counts-start (unitOf (x .target)) (x .plan .now) (x .count), (omega arith, omega arith))
 
 piece-at-requires : tie.Need-piece-at-requires Inv-loop μ-loop
 piece-at-requires c κs = search needs
 
-enum-told : tie.Need-enum-told Inv-loop μ-loop
-enum-told c = search needs
+enum-known-piece : tie.Need-enum-known-piece Inv-loop μ-loop
+enum-known-piece c = search needs
+
+-- the piece read is the plan's, and its lengths are
+module _ (c : tie.After-known-told Inv-loop μ-loop) where
+  abbrev k : tie.At-loop Inv-loop μ-loop
+  k = c .before .before .before .before .before
+
+  is-good : pieceAt (unitOf (k .before .before .args .target)) (k .before .before .args .plan .now) (k .loop .i) ≡ good (pieceIs (k .before .before .args .plan .now) (c .before .piece .given .0 .0))
+  is-good = sym (c .before .before .before .piece-at .ensures .0) ∙ ap (judgedIs (k .before .before .args .plan .now)) (c .before .piece .given .1)
+
+  piece-lengths : Lengths (k .before .before .args .plan .now) (c .before .piece .given .0 .0)
+  piece-lengths =
+      let s = k .before .before .args .plan .now in
+      let unit = unitOf (k .before .before .args .target) in
+      let r = c .before .before .before .piece-at in
+      let p = c .before .piece .given .0 .0 in
+      let bytes : Bytes s = all-elements _ 0 s (λ i. omega (arith, k .before .shared-slice-known .given i)) in
+      lengths unit s p (can-write unit s bytes (k .before .before .pre .1) (k .loop .i) (r .result) (r .ensures .0) (r .ensures .1) (c .before .piece .given .1))
+
+put-length-requires : tie.Need-put-length-requires Inv-loop μ-loop
+put-length-requires c κs = search needs
+
+add-puts : tie.Need-add-puts Inv-loop μ-loop
+add-puts c = let l = piece-lengths (c .before) in omega arith
+
+fill-length-requires : tie.Need-fill-length-requires Inv-loop μ-loop
+fill-length-requires c κs = search needs
+
+add-fills : tie.Need-add-fills Inv-loop μ-loop
+add-fills c = let l = piece-lengths (c .before .before) in omega arith
 
 add-i : tie.Need-add-i Inv-loop μ-loop
 add-i c = omega arith
@@ -32,28 +66,34 @@ loop-less : tie.Need-loop-less Inv-loop μ-loop
 loop-less c = omega arith
 
 loop-again : tie.Need-loop-again Inv-loop μ-loop
-loop-again c = let s = c .before .before .before .before in
+loop-again c =
+    let d = c .before .before in
+    let s = k d in
     let x = s .before .before .args in
-    let e = sym (c .before .before .piece-at .ensures .0) ∙ ap (judgedIs (x .plan .now)) (c .enum-told .given .1) in
-    (sym (counts-good (unitOf (x .target)) (x .plan .now) (x .count) (s .loop .i) (omega arith) e) ∙ s .loop .inv .0, omega arith)
+    let p = pieceIs (x .plan .now) (d .before .piece .given .0 .0) in
+    let l = piece-lengths d in
+    let e : c .before .put-length .result ≡ length (dataOf p) = omega arith in
+    let f : c .fill-length .result ≡ filledBy p = omega arith in
+    let more = counts-good (unitOf (x .target)) (x .plan .now) (x .count) (s .loop .i) (s .loop .puts) (s .loop .fills) (omega arith) (is-good d) in
+    (rw (e, f) (sym more ∙ s .loop .inv .0), (omega arith, omega arith))
 
 enum-known-number : tie.Need-enum-known-number Inv-loop μ-loop
 enum-known-number c = search needs
 
-cast-t8 : tie.Need-cast-t8 Inv-loop μ-loop
-cast-t8 c = omega arith
+cast-t12 : tie.Need-cast-t12 Inv-loop μ-loop
+cast-t12 c = omega arith
 
 returns : tie.Need-returns Inv-loop μ-loop
 returns c = let s = c .before .before .before .before .before in
     let x = s .before .before .args in
     let e = sym (c .before .before .before .piece-at .ensures .0) ∙ ap (judgedIs (x .plan .now)) (c .before .number .given .1) in
-    sym (counts-bad (unitOf (x .target)) (x .plan .now) (x .count) (s .loop .i) (omega arith) e) ∙ s .loop .inv .0
+    sym (counts-bad (unitOf (x .target)) (x .plan .now) (x .count) (s .loop .i) (s .loop .puts) (s .loop .fills) (omega arith) e) ∙ s .loop .inv .0
 
 returns-2 : tie.Need-returns-2 Inv-loop μ-loop
 returns-2 c = let s = c .before in
     let x = s .before .before .args in
     let e : s .loop .i ≡ x .count = omega arith in
-    rw e at (sym (counts-end (unitOf (x .target)) (x .plan .now) (x .count) (s .loop .i) (omega arith)) ∙ s .loop .inv .0)
+    rw e at (sym (counts-end (unitOf (x .target)) (x .plan .now) (x .count) (s .loop .i) (s .loop .puts) (s .loop .fills) (omega arith)) ∙ s .loop .inv .0)
 
 pub read-pieces-spec : {M : Type 1} → statement M
 read-pieces-spec =
@@ -63,11 +103,15 @@ read-pieces-spec =
     μ-loop
     loop-holds
     piece-at-requires
-    enum-told
+    enum-known-piece
+    put-length-requires
+    add-puts
+    fill-length-requires
+    add-fills
     add-i
     loop-less
     loop-again
     enum-known-number
-    cast-t8
+    cast-t12
     returns
     returns-2)

@@ -1,12 +1,19 @@
 -- `srom_pack::pack::pack` meets its contract: a refused plan, an output shorter than the image, or the image.
-use mathlib.Core.Path.{refl, ap, sym, _∙_}
+use mathlib.Core.Path.{_≡_, ap, sym, _∙_}
+use mathlib.Core.List.{List}
+use Prim.Native.Nat.{ℕ, _+_, _*_}
 use native.Mathlib.Omega.{arith}
 use borrow.Author.Needs.{needs}
 use lib.ListN.{length}
+use Rattle.words.specs.Choice.Laws.{all-elements}
+use Rattle.words.specs.Bytes.{Bytes}
+use Rattle.plan.specs.Plan.{readPlan}
+use Rattle.plan.specs.Packed.{planPieces}
+use Rattle.plan.specs.Packed.Laws.{leaves-refused, leaves-small, leaves-image}
 use Rattle.plan.specs.Code as reader
-use Rattle.plan.specs.Code.Laws.{Counted, counted, pack-refused, pack-small, pack-whole}
-use Rattle.plan.specs.Packed.{refusal, sized}
+use Rattle.plan.specs.Code.Laws.{Counted, counted}
 use Rattle.srom_pack.specs.Image.{sromImage, packSrom}
+use Rattle.srom_pack.specs.Image.Laws.{length-sromImage}
 use Rattle.srom_pack.proofs.pack.pack.Statement.{statement}
 use Rattle.srom_pack.proofs.pack.pack.Tie as tie
 
@@ -16,40 +23,63 @@ read-requires c κs = search needs
 enum-known-refusal : tie.Need-enum-known-refusal
 enum-known-refusal c = search needs
 
-enum-known-pieces : tie.Need-enum-known-pieces
-enum-known-pieces c = search needs
+enum-known-count : tie.Need-enum-known-count
+enum-known-count c = search needs
 
 -- the plan was accepted
-read-plan : (c : tie.After-known-told2) → Counted 4 (c .before .before .before .before .before .before .args .plan .now) (c .before .pieces .given .0 .0)
-read-plan c =
-    counted 4 (c .before .before .before .before .before .before .args .plan .now)
-    (sym (c .before .before .before .read .ensures) ∙ ap reader.outcomeIs (c .before .pieces .given .1))
+module _ (c : tie.After-known-told2) where
+  abbrev plan : List ℕ
+  plan = c .before .before .before .before .before .before .args .plan .now
 
-cast-count : tie.Need-cast-count
-cast-count c = omega (arith, read-plan c .few)
+  abbrev count : ℕ
+  count = c .before .count .given .0 .0
 
-image-size-requires : tie.Need-image-size-requires
-image-size-requires c κs = let r = read-plan c in (r .accepted, r .count, r .few)
+  abbrev puts : ℕ
+  puts = c .before .count .given .0 .1 .0
+
+  abbrev fills : ℕ
+  fills = c .before .count .given .0 .1 .1 .0
+
+  read-plan : Counted 4 plan count puts fills
+  read-plan =
+      let bytes : Bytes plan = all-elements _ 0 plan (λ i. omega (arith, c .before .before .before .before .before .shared-slice-known .given i)) in
+      counted 4 plan bytes (sym (c .before .before .before .read .ensures) ∙ ap reader.outcomeIs (c .before .count .given .1))
+
+  size-is : 2 + 7 * count + puts + fills ≡ length (sromImage (planPieces 4 plan))
+  size-is = let r = read-plan in omega (arith, length-sromImage (planPieces 4 plan))
+
+mul-size : tie.Need-mul-size
+mul-size c = omega (arith, read-plan c)
+
+add-size : tie.Need-add-size
+add-size c = omega (arith, read-plan c)
+
+add-size-2 : tie.Need-add-size-2
+add-size-2 c = omega (arith, read-plan c)
+
+add-size-3 : tie.Need-add-size-3
+add-size-3 c = omega (arith, read-plan c)
 
 returns : tie.Need-returns
 unfolding packSrom
 returns c =
-    let r = read-plan (c .before .before) in
-    let x = c .before .before .before .before .before .before .before .before .args in
-    let e = pack-small 4 (x .plan .now) sromImage (length (x .output .now)) (r .accepted) (omega (arith, c .before .image-size .ensures)) in
-    rw e (ap (refusal 10) (r .count), refl)
+    let x = c .before .before .before .before .before .before .before .args in
+    let r = read-plan (c .before) in
+    leaves-small sromImage (readPlan 4 (x .plan .now)) (x .output .now) (r .accepted) (size-is (c .before)) (r .count) (omega arith)
+
+cast-write-image : tie.Need-cast-write-image
+cast-write-image c = omega (arith, read-plan (c .before))
 
 write-image-requires : tie.Need-write-image-requires
 write-image-requires c κs =
-    let r = read-plan (c .before .before .before) in
-    (r .accepted, r .count, r .few, omega (arith, c .before .before .image-size .ensures))
+    let r = read-plan (c .before .before) in
+    (r .accepted, r .count, r .few, omega (arith, size-is (c .before .before)))
 
 returns-2 : tie.Need-returns-2
 unfolding packSrom
 returns-2 c =
     let x = c .before .before .before .before .before .before .args in
-    let e = pack-refused 4 (x .plan .now) sromImage (length (x .output .now)) (sym (c .before .before .before .read .ensures) ∙ ap reader.outcomeIs (c .before .refusal .given .1)) in
-    rw e (refl, refl)
+    leaves-refused sromImage (readPlan 4 (x .plan .now)) (x .output .now) (sym (c .before .before .before .read .ensures) ∙ ap reader.outcomeIs (c .before .refusal .given .1))
 
 same-length : tie.Need-same-length
 same-length c = search needs
@@ -57,11 +87,9 @@ same-length c = search needs
 returns-3 : tie.Need-returns-3
 unfolding packSrom
 returns-3 c =
-    let k = c .before .before .before .before .before in
-    let r = read-plan (k .before) in
-    let x = k .before .before .before .before .before .before .before .args in
-    let e = pack-whole 4 (x .plan .now) sromImage (length (x .output .now)) (r .accepted) (omega (arith, k .image-size .ensures)) in
-    rw e (ap sized (k .image-size .ensures), c .before .before .write-image .ensures)
+    let d = c .before .before .before .before .before in
+    let x = d .before .before .before .before .before .before .args in
+    leaves-image sromImage (readPlan 4 (x .plan .now)) (x .output .now) (read-plan d .accepted) (size-is d) (omega arith) (c .before .before .write-image .ensures)
 
 pub pack-spec : {M : Type 1} → statement M
 pack-spec =
@@ -69,10 +97,13 @@ pack-spec =
     (tie.spec
     read-requires
     enum-known-refusal
-    enum-known-pieces
-    cast-count
-    image-size-requires
+    enum-known-count
+    mul-size
+    add-size
+    add-size-2
+    add-size-3
     returns
+    cast-write-image
     write-image-requires
     returns-2
     same-length
