@@ -4,7 +4,6 @@ ghost use Prim.Native.Nat.{_+_, _≤_};
 ghost use lib.ListN.{length};
 ghost use Rattle.words.specs.Four.{fourAt, fourBytes};
 ghost use Rattle.words.specs.Store.{storeIfFits};
-use crate::read::le_word_at;
 use crate::read::whole_le_word;
 
 pub struct Four {
@@ -27,16 +26,14 @@ fn whole(s: &[u8], at: usize) -> Four
     }
 }
 
-// The first sixteen bytes, where some may be past the end.
+// At most sixteen bytes; those that are missing count as zero.
 fn short(s: &[u8]) -> Four
+    requires { ⌜ length (now s) ≤ 16 ⌝ }
     ensures { λ r. ⌜ r ≡ fourAt (now (s .entry)) 0 ⌝ }
 {
-    Four {
-        first: le_word_at(s, 0),
-        second: le_word_at(s, 4),
-        third: le_word_at(s, 8),
-        fourth: le_word_at(s, 12),
-    }
+    let mut bytes = [0u8; 16];
+    crate::put::bytes(&mut bytes, 0, s);
+    whole(&bytes, 0)
 }
 
 // The four words at an offset. Bytes past the slice's end count as zero.

@@ -4,10 +4,10 @@ use mathlib.Core.List.{List, _++_, append-assoc}
 use Prim.Native.Nat.{ℕ, _+_, _-_, _≤_}
 use native.Mathlib.Nat.{add-zero}
 use native.Mathlib.Omega.{arith}
-use lib.ListN.{length, take, drop, length-append, length-drop}
+use lib.ListN.{length, take, drop, replicate, length-append, length-drop, length-replicate}
 use lib.Seq.{take-all}
-use Rattle.words.specs.Bytes.{littleEndian}
-use Rattle.words.specs.Bytes.Laws.{length-littleEndian, little-at-past, little-at-drop}
+use Rattle.words.specs.Bytes.{littleEndian, littleEndianAt}
+use Rattle.words.specs.Bytes.Laws.{length-littleEndian, little-at-past, little-at-drop, little-at-padded}
 use Rattle.words.specs.Store.{store, storeIfFits}
 use Rattle.words.specs.Store.Laws.{store-fits, store-behind}
 use Rattle.words.specs.Four.{fourAt, fourBytes}
@@ -50,3 +50,13 @@ four-at-rest p s =
 pub four-past : (p : ℕ) (s : List ℕ) → length s ≤ p → fourAt s p ≡ record { first = 0; second = 0; third = 0; fourth = 0 }
 four-past p s h =
     simp (little-at-past 4 p s h, little-at-past 4 (p + 4) s (omega arith), little-at-past 4 (p + 8) s (omega arith), little-at-past 4 (p + 12) s (omega arith))
+
+-- at the front of n zeros
+pub four-padded : (n : ℕ) (s r : List ℕ) → length s ≤ n → r ≡ storeIfFits (replicate n 0) 0 s → fourAt r 0 ≡ fourAt s 0
+unfolding store
+four-padded n s r h e =
+    let z : r ≡ s ++ drop (0 + length s) (replicate n 0) = e ∙ store-fits (replicate n 0) 0 s (omega (arith, length-replicate {A = ℕ} n 0)) in
+    rw z (simp (at 0, at 4, at 8, at 12))
+  where
+    at : (i : ℕ) → littleEndianAt 4 (s ++ drop (0 + length s) (replicate n 0)) i ≡ littleEndianAt 4 s i
+    at i = little-at-padded 4 i (0 + length s) n s

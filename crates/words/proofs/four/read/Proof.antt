@@ -2,7 +2,9 @@
 use borrow.Author.Needs.{needs}
 use mathlib.Core.Path.{sym, _∙_}
 use native.Mathlib.Omega.{arith}
-use borrow.Author.Tests.{leb-true}
+use Prim.Native.Nat.{_+_, _-_}
+use lib.ListN.{length, drop, length-take}
+use borrow.Author.Tests.{leb-true, leb-false}
 use Rattle.words.specs.Four.Laws.{four-at-rest, four-past}
 use Rattle.words.proofs.four.read.Statement.{statement}
 use Rattle.words.proofs.four.read.Tie as tie
@@ -26,7 +28,13 @@ part-short-end : tie.Need-part-short-end
 part-short-end c = search needs
 
 short-requires : tie.Need-short-requires
-short-requires c κs = search needs
+short-requires c κs =
+    let x = c .before .before .before .before .before .args in
+    omega (
+      arith,
+      leb-false (x .at + 16) (length (x .s .now)) (sym (c .before .before .before .fits2 .ensures) ∙ c .before .before .if1 .left),
+      length-take (length (x .s .now) - x .at) (drop (x .at) (x .s .now)),
+    )
 
 returns-2 : tie.Need-returns-2
 returns-2 c = let x = c .before .before .before .before .before .before .args in c .short .ensures ∙ four-at-rest (x .at) (x .s .now)

@@ -1,29 +1,27 @@
--- `words::four::short` meets its contract: its four words are those of the definition.
+-- `words::four::short` meets its contract: the bytes stand at the front of sixteen zeros.
 use borrow.Author.Needs.{needs}
+use mathlib.Core.Path.{_∙_}
+use native.Mathlib.Omega.{arith}
+use Rattle.words.specs.Four.Laws.{four-padded}
 use Rattle.words.proofs.four.short.Statement.{statement}
 use Rattle.words.proofs.four.short.Tie as tie
 
-le-word-at-requires : tie.Need-le-word-at-requires
-le-word-at-requires c κs = search needs
+slice-aggregate-bytes : tie.Need-slice-aggregate-bytes
+slice-aggregate-bytes c = search needs
 
-le-word-at-requires-2 : tie.Need-le-word-at-requires-2
-le-word-at-requires-2 c κs = search needs
+bytes-requires : tie.Need-bytes-requires
+bytes-requires c κs = search needs
 
-le-word-at-requires-3 : tie.Need-le-word-at-requires-3
-le-word-at-requires-3 c κs = search needs
+slice-aggregate-whole : tie.Need-slice-aggregate-whole
+slice-aggregate-whole c = search needs
 
-le-word-at-requires-4 : tie.Need-le-word-at-requires-4
-le-word-at-requires-4 c κs = search needs
+whole-requires : tie.Need-whole-requires
+whole-requires c κs = search needs
 
 returns : tie.Need-returns
-returns c = simp (c .le-word-at4 .ensures, c .before .le-word-at3 .ensures, c .before .before .le-word-at2 .ensures, c .before .before .before .le-word-at .ensures)
+returns c = c .whole .ensures ∙ four-padded 16 (c .before .before .before .before .before .before .args .s .now) _ (omega arith) (c .before .before .before .bytes2 .ensures)
 
 pub short-spec : {M : Type 1} → statement M
 short-spec =
     tie.close
-    (tie.spec
-    le-word-at-requires
-    le-word-at-requires-2
-    le-word-at-requires-3
-    le-word-at-requires-4
-    returns)
+    (tie.spec slice-aggregate-bytes bytes-requires slice-aggregate-whole whole-requires returns)
