@@ -16,8 +16,8 @@ use Rattle.memory_map.specs.declared.map.Map.{Map}
 use Rattle.memory_map.specs.Outcome.{Ending, stops, refuses, Outcome, outcomeAt, memoryAt, Loaded}
 use Rattle.memory_map.specs.Map.{sound}
 use Rattle.memory_map.specs.Lookup.{Lookup, lookup}
+use Rattle.aplx_copy.specs.Copy.{copied}
 use Rattle.aplx.specs.Command.{Command, copy, fill, exec, other}
-use Rattle.aplx.specs.Copy.{copied}
 use Rattle.aplx.specs.Walk.{walk, placeOf, commands}
 
 -- ---- the test for 8

@@ -23,7 +23,7 @@ fn perform_command(map: Map, memory: &mut [u8], command: Command)
         Command::Copy { to, from, length } => {
             let target = place(map.lookup(Right::Write, to, length));
             let source = place(map.lookup(Right::Read, from, length));
-            crate::store::copy(memory, target, source, length as usize);
+            aplx_copy::copy::copy(memory, target, source, length as usize);
         }
         Command::Fill { to, length, word } => {
             let target = place(map.lookup(Right::Write, to, length));

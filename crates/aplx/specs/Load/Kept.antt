@@ -16,8 +16,8 @@ use Rattle.memory_map.specs.declared.region.Right.{Right}
 use Rattle.memory_map.specs.declared.region.Right.the-variants.{Read, Write}
 use Rattle.memory_map.specs.Lookup.{Lookup, at, found}
 use Rattle.memory_map.specs.Lookup.Laws.{Lawful, apart}
+use Rattle.aplx_copy.specs.Copy.Laws.{length-copied, copied-outside}
 use Rattle.aplx.specs.Command.{Command, copy, fill, exec, other, commandAt}
-use Rattle.aplx.specs.Copy.Laws.{length-copied, copied-outside}
 use Rattle.aplx.specs.Walk.{placeOf}
 use Rattle.aplx.specs.Walk.Laws.{found-at, range-inside}
 use Rattle.aplx.specs.Load.{meetsHeader, perform}

@@ -23,9 +23,9 @@ use Rattle.aplx.specs.Walk.Laws.{Passed, found-at, walk-passed, length-c
 use Rattle.aplx.specs.Load.Header.{same-stop, clear-from}
 use Rattle.aplx.specs.Load.{meetsHeader, headerTest, tested, bytesOf, bytesIn, lookOf, look, aplxLook, outcomeOfLook, loadWith, aplxLoad}
 
--- the ranges of a command are permitted, and whole words
+-- the ranges of a command are permitted, and a fill has whole words
 abbrev pub Performable : Lookup → Command → Type 0
-Performable find (copy d s n) = (found (find Write d n) ≡ true) × (found (find Read s n) ≡ true) × (n % 4 ≡ 0)
+Performable find (copy d s n) = (found (find Write d n) ≡ true) × (found (find Read s n) ≡ true)
 Performable find (fill d n w) = (found (find Write d n) ≡ true) × (n % 4 ≡ 0)
 Performable find (exec x) = Unit {0}
 Performable find (other c) = Unit {0}
@@ -92,7 +92,7 @@ pub goes-performable :
 goes-performable find m a i p e = go (commandAt m p a) (whole-words m p a) (goes-permitted find a i (commandAt m p a) e)
   where
     go : (c : Command) → bytesOf c % 4 ≡ 0 → Permitted find c → Performable find c
-    go (copy d s n) w g = (g .0, g .1, w)
+    go (copy d s n) w g = g
     go (fill d n x) w g = (g, w)
     go (exec x) w g = tt
     go (other c) w g = tt

@@ -1,13 +1,13 @@
--- `aplx::store::copy_groups` meets its contract. The loop's invariant: the copy of the groups left, from here on, gives what the whole copy gives.
+-- `aplx_copy::copy::copy_groups` meets its contract. The loop's invariant: the copy of the groups left, from here on, gives what the whole copy gives.
 use mathlib.Core.Path.{_≡_, refl, sym, _∙_}
 use Prim.Native.Nat.{_+_, _-_, _*_, _≤_}
 use native.Mathlib.Nat.{sub-zero, add-zero}
 use native.Mathlib.Omega.{arith}
 use lib.ListN.{length}
-use Rattle.aplx.specs.Copy.{copyWords}
-use Rattle.aplx.specs.Copy.Laws.{group-next}
-use Rattle.aplx.proofs.store.copy_groups.Statement.{statement}
-use Rattle.aplx.proofs.store.copy_groups.Tie as tie
+use Rattle.aplx_copy.specs.Copy.{copyWords}
+use Rattle.aplx_copy.specs.Copy.Laws.{group-next}
+use Rattle.aplx_copy.proofs.copy.copy_groups.Statement.{statement}
+use Rattle.aplx_copy.proofs.copy.copy_groups.Tie as tie
 
 abbrev Inv-loop : tie.InvT-loop
 Inv-loop memory₀ to from count i₀ memory i =

@@ -1,12 +1,12 @@
--- `aplx::store::copy_group` meets its contract: the group has the bytes that are then stored.
+-- `aplx_copy::copy::copy_group` meets its contract: the group has the bytes that are then stored.
 use mathlib.Core.Path.{_≡_, ap}
 use Prim.Native.Nat.{ℕ, _+_, _-_}
 use native.Mathlib.Omega.{arith}
 use lib.ListN.{take, drop}
-use Rattle.aplx.specs.Copy.Laws.{group-copied}
+use Rattle.aplx_copy.specs.Copy.Laws.{group-copied}
 use borrow.Author.Needs.{needs}
-use Rattle.aplx.proofs.store.copy_group.Statement.{statement}
-use Rattle.aplx.proofs.store.copy_group.Tie as tie
+use Rattle.aplx_copy.proofs.copy.copy_group.Statement.{statement}
+use Rattle.aplx_copy.proofs.copy.copy_group.Tie as tie
 
 add-end : tie.Need-add-end
 add-end c = search needs

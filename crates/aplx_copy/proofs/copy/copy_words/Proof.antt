@@ -1,4 +1,4 @@
--- `aplx::store::copy_words` meets its contract. The loop's invariant: the copy of the words left, from here on, gives what the whole copy gives.
+-- `aplx_copy::copy::copy_words` meets its contract. The loop's invariant: the copy of the words left, from here on, gives what the whole copy gives.
 use mathlib.Core.Path.{_≡_, refl, sym, _∙_}
 use mathlib.Core.List.{List}
 use Prim.Native.Nat.{ℕ, _+_, _-_, _*_, _/_, _≤_}
@@ -8,10 +8,10 @@ use lib.ListN.{length, take, drop, getD, set, length-set}
 use borrow.Author.Needs.{needs}
 use Rattle.words.specs.Store.{store}
 use Rattle.words.specs.Store.Laws.{four-elements, four-sets, store-fits}
-use Rattle.aplx.specs.Copy.{copyWords, copied}
-use Rattle.aplx.specs.Copy.Laws.{copy-next, copy-end}
-use Rattle.aplx.proofs.store.copy_words.Statement.{statement}
-use Rattle.aplx.proofs.store.copy_words.Tie as tie
+use Rattle.aplx_copy.specs.Copy.{copyWords, copied}
+use Rattle.aplx_copy.specs.Copy.Laws.{copy-next, copy-end}
+use Rattle.aplx_copy.proofs.copy.copy_words.Statement.{statement}
+use Rattle.aplx_copy.proofs.copy.copy_words.Tie as tie
 
 abbrev Inv-loop : tie.InvT-loop
 Inv-loop memory₀ to from size n i₀ memory i = (i ≤ n) × ((length memory ≡ length memory₀) × (copyWords (n - i) (to + 4 * i) (from + 4 * i) memory ≡ copyWords n to from memory₀))

@@ -6,10 +6,11 @@ use native.Mathlib.Nat.{zero-add, add-zero}
 use native.Mathlib.Omega.{arith}
 use lib.ListN.{length, take, drop, replicate, length-drop}
 use lib.Seq.{length-take-le, take-add, drop-drop}
+use borrow.Author.Tests.{le-leb}
 use Rattle.words.specs.Range.Laws.{Apart, before, behind, apart-part}
 use Rattle.words.specs.Store.{store, storeIfFits}
 use Rattle.words.specs.Store.Laws.{length-store, part-outside, store-adjoining, store-nil, store-fits, store-whole}
-use Rattle.aplx.specs.Copy.{copyWords, copied}
+use Rattle.aplx_copy.specs.Copy.{copyWords, copied, copiedIfFits}
 
 -- ---- k words, i of them copied
 module _ (k i d s : ℕ) (m : List ℕ) where
@@ -121,10 +122,10 @@ group-next k i d s m h x y a =
     moved (clear h) = clear (omega arith)
 
 -- the groups of n bytes, then the words that are left
-pub copied-groups : (n d s : ℕ) (m : List ℕ) → n % 4 ≡ 0
+pub copied-groups : (n d s : ℕ) (m : List ℕ)
     → copied n d s m ≡ copied (n - n / 32 * 32) (d + n / 32 * 32) (s + n / 32 * 32) (copyWords (8 * (n / 32)) d s m)
 unfolding copied
-copied-groups n d s m h =
+copied-groups n d s m =
     let z : n / 4 ≡ 8 * (n / 32) + (n - n / 32 * 32) / 4 = omega arith in
     let u : d + n / 32 * 32 ≡ d + 4 * (8 * (n / 32)) = omega arith in
     let v : s + n / 32 * 32 ≡ s + 4 * (8 * (n / 32)) = omega arith in
@@ -136,6 +137,10 @@ apart-ahead (behind h) = down (omega arith)
 
 -- ---- n bytes
 module _ (n d s : ℕ) (m : List ℕ) (x : d + n ≤ length m) (y : s + n ≤ length m) where
+  pub copied-fits : copiedIfFits n d s m ≡ copied n d s m
+  unfolding copiedIfFits
+  copied-fits = simp (le-leb _ _ x, le-leb _ _ y)
+
   pub length-copied : length (copied n d s m) ≡ length m
   unfolding copied
   length-copied = length-words (n / 4) d s m (omega arith) (omega arith)

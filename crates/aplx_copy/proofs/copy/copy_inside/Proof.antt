@@ -1,9 +1,9 @@
--- `aplx::store::copy` meets its contract: each of its three ways copies the same.
+-- `aplx_copy::copy::copy_inside` meets its contract: each of its three ways copies the same.
 use native.Mathlib.Omega.{arith}
-use Rattle.aplx.specs.Copy.Laws.{down, clear}
+use Rattle.aplx_copy.specs.Copy.Laws.{down, clear}
 use borrow.Author.Needs.{needs}
-use Rattle.aplx.proofs.store.copy.Statement.{statement}
-use Rattle.aplx.proofs.store.copy.Tie as tie
+use Rattle.aplx_copy.proofs.copy.copy_inside.Statement.{statement}
+use Rattle.aplx_copy.proofs.copy.copy_inside.Tie as tie
 
 sub-if2 : tie.Need-sub-if2
 sub-if2 c = search needs
@@ -18,7 +18,7 @@ returns : tie.Need-returns
 returns c = search needs
 
 copy-far-requires : tie.Need-copy-far-requires
-copy-far-requires c κs = (omega arith, omega arith, omega arith, clear (omega arith))
+copy-far-requires c κs = (omega arith, omega arith, clear (omega arith))
 
 same-length-2 : tie.Need-same-length-2
 same-length-2 c = search needs
@@ -27,7 +27,7 @@ returns-2 : tie.Need-returns-2
 returns-2 c = search needs
 
 copy-far-requires-2 : tie.Need-copy-far-requires-2
-copy-far-requires-2 c κs = (omega arith, omega arith, omega arith, down (omega arith))
+copy-far-requires-2 c κs = (omega arith, omega arith, down (omega arith))
 
 same-length-3 : tie.Need-same-length-3
 same-length-3 c = search needs
@@ -35,8 +35,8 @@ same-length-3 c = search needs
 returns-3 : tie.Need-returns-3
 returns-3 c = search needs
 
-pub copy-spec : {M : Type 1} → statement M
-copy-spec =
+pub copy-inside-spec : {M : Type 1} → statement M
+copy-inside-spec =
     tie.close
     (tie.spec
     sub-if2

@@ -1,11 +1,11 @@
--- `aplx::store::copy_far` meets its contract: the groups, then the words that are left.
+-- `aplx_copy::copy::copy_far` meets its contract: the groups, then the words that are left.
 use mathlib.Core.Path.{ap, sym, _∙_}
 use Prim.Native.Nat.{_+_, _-_, _*_, _/_}
-use Rattle.aplx.specs.Copy.{copied}
-use Rattle.aplx.specs.Copy.Laws.{copied-groups}
+use Rattle.aplx_copy.specs.Copy.{copied}
+use Rattle.aplx_copy.specs.Copy.Laws.{copied-groups}
 use borrow.Author.Needs.{needs}
-use Rattle.aplx.proofs.store.copy_far.Statement.{statement}
-use Rattle.aplx.proofs.store.copy_far.Tie as tie
+use Rattle.aplx_copy.proofs.copy.copy_far.Statement.{statement}
+use Rattle.aplx_copy.proofs.copy.copy_far.Tie as tie
 
 mul-done : tie.Need-mul-done
 mul-done c = search needs
@@ -34,7 +34,7 @@ returns c =
     let k = x .size / 32 * 32 in
     c .before .before .copy-words .ensures
     ∙ ap (copied (x .size - k) (x .to + k) (x .from + k)) (c .before .before .before .before .before .before .copy-groups .ensures)
-    ∙ sym (copied-groups (x .size) (x .to) (x .from) (x .memory .now) (c .before .before .before .before .before .before .before .before .before .pre .2))
+    ∙ sym (copied-groups (x .size) (x .to) (x .from) (x .memory .now))
 
 pub copy-far-spec : {M : Type 1} → statement M
 copy-far-spec =
