@@ -1,2 +1,2 @@
-// The copies of the APLX loader.
+// Copies within memory, as APLX has them.
 pub mod copy; // words from one place to another, lowest first

@@ -6,9 +6,9 @@ use Rattle.memory_map.specs.declared.region.Right.the-variants.{Read, Write}
 use Rattle.memory_map.specs.Lookup.{lookup}
 use Rattle.memory_map.specs.Lookup.Laws.{lawful}
 use Rattle.aplx_copy.specs.Copy.Laws.{copied-fits}
-use Rattle.aplx.specs.Walk.{placeOf}
+use Rattle.aplx_look.specs.Walk.{placeOf}
+use Rattle.aplx_look.specs.Walk.Laws.{range-inside}
 use Rattle.aplx.specs.Load.{perform}
-use Rattle.aplx.specs.Walk.Laws.{range-inside}
 use Rattle.aplx.proofs.perform.perform_command.Statement.{statement}
 use Rattle.aplx.proofs.perform.perform_command.Tie as tie
 
@@ -91,7 +91,7 @@ returns c =
     let l = lawful (s .args .map) (length m) (s .pre .0) in
     simp (k .command .given .1, ← target t, ← source p)
     (c .before .before .copy .ensures
-    ∙ copied-fits (f .1 .1 .0) (t .place .result) (p .place2 .result) m (range-inside l Write (f .0) (f .1 .1 .0) (target t) (g .0)) (range-inside l Read (f .1 .0) (f .1 .1 .0) (source p) (g .1)))
+    ∙ copied-fits (f .1 .1 .0) (t .place .result) (p .place2 .result) m (range-inside l Write (f .0) (f .1 .1 .0) (target t) (g .0 .0)) (range-inside l Read (f .1 .0) (f .1 .1 .0) (source p) (g .0 .1)))
 
 same-length-2 : tie.Need-same-length-2
 same-length-2 c = search needs

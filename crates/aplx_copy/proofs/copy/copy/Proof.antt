@@ -1,5 +1,5 @@
 -- `aplx_copy::copy::copy` meets its contract: ranges that were found to fit are copied, and else nothing is.
-use mathlib.Core.Path.{_≡_, sym, _∙_}
+use mathlib.Core.Path.{sym, _∙_}
 use Prim.Native.Nat.{_+_, _≤_}
 use lib.ListN.{length}
 use borrow.Author.Needs.{needs}
