@@ -9,11 +9,13 @@ use lib.ListN.{length}
 use Rattle.memory_map.specs.declared.region.Right.the-variants.{Read}
 use Rattle.memory_map.specs.Lookup.{Lookup, found}
 use Rattle.memory_map.specs.Lookup.Laws.{Lawful}
-use Rattle.aplx.specs.Command.{Command, commandAt}
-use Rattle.aplx.specs.Walk.{placeOf, commands}
-use Rattle.aplx.specs.Walk.Laws.{found-at, found-place, Entry, goes-found, commands-next, commands-end}
-use Rattle.aplx.specs.Load.{meetsHeader, perform, performAll}
-use Rattle.aplx.specs.Load.Laws.{Performable, Ready, goes-performable}
+use Rattle.aplx_look.specs.Command.{Command, commandAt}
+use Rattle.aplx_look.specs.Walk.{placeOf, commands}
+use Rattle.aplx_look.specs.Walk.Laws.{found-at, found-place, Entry, goes-found, commands-next, commands-end}
+use Rattle.aplx_look.specs.Look.{meetsHeader}
+use Rattle.aplx_look.specs.Look.Laws.{Ready}
+use Rattle.aplx.specs.Load.{perform, performAll}
+use Rattle.aplx.specs.Load.Laws.{Performable, goes-performable}
 use Rattle.aplx.specs.Load.Kept.{length-perform, entry-kept}
 
 -- the command of the entry at address a

@@ -1,8 +1,4 @@
 -- The APLX loader (paper 01, "APLX"; document 002).
-pub mod Command
-pub mod Copy
-pub mod Walk
 pub mod Load
-pub mod Code
 pub mod Open
 pub mod Examples

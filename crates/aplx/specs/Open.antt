@@ -1,12 +1,9 @@
--- Groups of definitions that computed examples open together: `unfolding NAME` opens all in the line under NAME. Not needed for belief.
-use Rattle.words.specs.Open as words
-use Rattle.memory_map.specs.Open.{lookups}
-use Rattle.aplx.specs.Command.{commandOf, commandAt}
-use Rattle.aplx.specs.Copy.{copyWords, copied}
-use Rattle.aplx.specs.Walk.{otherCommand, tests, judge, walkFor, walk, commands}
-use Rattle.aplx.specs.Load.{meetsHeader, headerTest, perform, performAll, bytesIn, look, loadWith}
+-- A group of definitions that computed examples open together: `unfolding NAME` opens all in the line under NAME. Not needed for belief.
+use Rattle.aplx_copy.specs.Open.{copies}
+use Rattle.aplx_look.specs.Open.{looks}
+use Rattle.aplx.specs.Load.{perform, performAll, loadWith}
 
 -- the load of entries in memory
 unfoldable pub load : Unit {0}
-unfolding words.tests words.stores lookups loadWith look headerTest meetsHeader perform performAll bytesIn walk walkFor judge tests otherCommand commands commandAt commandOf copied copyWords
+unfolding copies looks loadWith perform performAll
 load = tt

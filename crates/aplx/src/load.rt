@@ -1,69 +1,15 @@
 // The load of an APLX image.
 ghost use mathlib.Core.Path.{_≡_};
-ghost use mathlib.Core.Bool.{true};
-ghost use Prim.Native.Nat.{_%_};
-ghost use lib.ListN.{length};
 ghost use Rattle.memory_map.specs.Outcome.{outcomeOf};
-ghost use Rattle.memory_map.specs.Map.{sound};
-ghost use Rattle.memory_map.specs.Lookup.{lookup};
-ghost use Rattle.aplx.specs.Load.{look, aplxLook, outcomeOfLook, aplxLoad};
-use crate::header::Header;
-use crate::walk::Ending;
+ghost use Rattle.aplx.specs.Load.{aplxLoad};
 use memory_map::answer::Answer;
-use memory_map::answer::MAP_NOT_SOUND;
-use memory_map::answer::MEETS_HEADER;
-use memory_map::answer::NOT_ALIGNED;
-use memory_map::answer::Refusal;
 use memory_map::map::Map;
-
-// The answer of a load with a sound map, from a header address that is a multiple of 4.
-fn look_entries(map: Map, memory: &[u8], header: u32) -> Answer
-    requires { ⌜ (sound map (length (now memory)) ≡ true) × (header % 4 ≡ 0) ⌝ }
-    ensures { λ r. ⌜ outcomeOf r ≡ outcomeOfLook (look (lookup map) (now (memory .entry)) header) ⌝ }
-{
-    let walked = crate::walk::walk_entries(map, memory, header);
-    let count = walked.count;
-    let ending = walked.ending;
-    match ending {
-        Ending::Refused(refusal) => Answer::Refused(refusal),
-        Ending::Stops(stop) => match crate::header::check_header(map, memory, header, count) {
-            Header::Met { index } => Answer::Refused(Refusal {
-                number: MEETS_HEADER,
-                place: index,
-            }),
-            Header::Clear { stored } => Answer::Accepted {
-                stop,
-                taken: count,
-                stored,
-            },
-        },
-    }
-}
-
-// The whole answer of a load. Nothing is stored.
-fn look_load(map: Map, memory: &[u8], header: u32) -> Answer
-    ensures { λ r. ⌜ outcomeOf r ≡ outcomeOfLook (aplxLook map (now (memory .entry)) header) ⌝ }
-{
-    if !map.sound(memory.len()) {
-        return Answer::Refused(Refusal {
-            number: MAP_NOT_SOUND,
-            place: 0,
-        });
-    }
-    if header % 4 != 0 {
-        return Answer::Refused(Refusal {
-            number: NOT_ALIGNED,
-            place: 0,
-        });
-    }
-    look_entries(map, memory, header)
-}
 
 // Loads the image whose header is at an address, up to the first run or other stop. A refused load changes no byte.
 pub fn load(map: Map, memory: &mut [u8], header: u32) -> Answer
     ensures { λ r. ⌜ record { outcome = outcomeOf r; memory = now (memory .exit) } ≡ aplxLoad map (now (memory .entry)) header ⌝ }
 {
-    match look_load(map, memory, header) {
+    match aplx_look::look::look(map, memory, header) {
         Answer::Refused(refusal) => Answer::Refused(refusal),
         Answer::Accepted {
             stop,

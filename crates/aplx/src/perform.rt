@@ -1,16 +1,16 @@
 // The commands carried out.
 ghost use mathlib.Core.Path.{_≡_};
 ghost use mathlib.Core.Bool.{true};
-ghost use Prim.Native.Nat.{_<_};
 ghost use lib.ListN.{length};
 ghost use Rattle.memory_map.specs.Map.{sound};
 ghost use Rattle.memory_map.specs.Lookup.{lookup};
-ghost use Rattle.aplx.specs.Walk.{commands};
+ghost use Rattle.aplx_look.specs.Walk.{commands};
+ghost use Rattle.aplx_look.specs.Look.Laws.{Ready};
+ghost use Rattle.aplx_look.specs.Code.{commandIs};
 ghost use Rattle.aplx.specs.Load.{perform, performAll};
-ghost use Rattle.aplx.specs.Load.Laws.{Performable, Ready};
-ghost use Rattle.aplx.specs.Code.{commandIs};
-use crate::command::Command;
-use crate::walk::place;
+ghost use Rattle.aplx.specs.Load.Laws.{Performable};
+use aplx_look::command::Command;
+use aplx_look::walk::place;
 use memory_map::map::Map;
 use memory_map::region::Right;
 
@@ -23,7 +23,7 @@ fn perform_command(map: Map, memory: &mut [u8], command: Command)
         Command::Copy { to, from, length } => {
             let target = place(map.lookup(Right::Write, to, length));
             let source = place(map.lookup(Right::Read, from, length));
-            crate::store::copy(memory, target, source, length as usize);
+            aplx_copy::copy::copy(memory, target, source, length as usize);
         }
         Command::Fill { to, length, word } => {
             let target = place(map.lookup(Right::Write, to, length));
@@ -43,7 +43,7 @@ pub(crate) fn perform_all(map: Map, memory: &mut [u8], header: u32, count: usize
     let mut i: usize = 0;
     while i < count {
         let entry = place(map.lookup(Right::Read, address, 16));
-        let command = crate::command::command_at(memory, entry, address);
+        let command = aplx_look::command::command_in(&memory[entry..], address);
         perform_command(map, memory, command);
         address += 16;
         i += 1;

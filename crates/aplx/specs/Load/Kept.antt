@@ -1,12 +1,10 @@
 -- What a command leaves as it was: the length of memory, and the entries that its destination does not meet.
-use mathlib.Core.Path.{_≡_, refl, ap, sym, _∙_}
+use mathlib.Core.Path.{_≡_, refl, _∙_}
 use mathlib.Core.Bool.{true, false}
 use mathlib.Core.List.{List}
 use Prim.Native.Nat.{ℕ, _+_, _/_, _%_, _≤_}
 use native.Mathlib.Omega.{arith}
 use lib.ListN.{length, take, drop}
-use Rattle.words.specs.Bytes.{littleEndianAt}
-use Rattle.words.specs.Bytes.Laws.{little-at-part}
 use Rattle.words.specs.Range.{meets}
 use Rattle.words.specs.Range.Laws.{Apart, misses-apart, apart-misses, apart-swap, apart-part}
 use Rattle.words.specs.Repeat.{repeated}
@@ -16,24 +14,14 @@ use Rattle.memory_map.specs.declared.region.Right.{Right}
 use Rattle.memory_map.specs.declared.region.Right.the-variants.{Read, Write}
 use Rattle.memory_map.specs.Lookup.{Lookup, at, found}
 use Rattle.memory_map.specs.Lookup.Laws.{Lawful, apart}
-use Rattle.aplx.specs.Command.{Command, copy, fill, exec, other, commandAt}
-use Rattle.aplx.specs.Copy.Laws.{length-copied, copied-outside}
-use Rattle.aplx.specs.Walk.{placeOf}
-use Rattle.aplx.specs.Walk.Laws.{found-at, range-inside}
-use Rattle.aplx.specs.Load.{meetsHeader, perform}
+use Rattle.aplx_copy.specs.Copy.Laws.{length-copied, copied-outside}
+use Rattle.aplx_look.specs.Command.{Command, copy, fill, exec, other, commandAt}
+use Rattle.aplx_look.specs.Command.Laws.{same-entry}
+use Rattle.aplx_look.specs.Walk.{placeOf}
+use Rattle.aplx_look.specs.Walk.Laws.{found-at, range-inside}
+use Rattle.aplx_look.specs.Look.{meetsHeader}
+use Rattle.aplx.specs.Load.{perform}
 use Rattle.aplx.specs.Load.Laws.{Performable}
-
--- an entry whose words are the same says the same
-same-entry :
-    (s t : List ℕ) (p a : ℕ) → ((q : ℕ) → p ≤ q → q + 4 ≤ p + 16 → take 4 (drop q s) ≡ take 4 (drop q t)) → commandAt s p a ≡ commandAt t p a
-unfolding commandAt
-same-entry s t p a e =
-    rw
-    (word p (omega arith) (omega arith), word (p + 4) (omega arith) (omega arith), word (p + 8) (omega arith) (omega arith), word (p + 12) (omega arith) (omega arith))
-  where
-    word : (q : ℕ) → p ≤ q → q + 4 ≤ p + 16 → littleEndianAt 4 s q ≡ littleEndianAt 4 t q
-    word q x y =
-        sym (little-at-part 4 q 4 s (omega arith)) ∙ ap (λ (l : List ℕ). littleEndianAt 4 l 0) (e q x y) ∙ little-at-part 4 q 4 t (omega arith)
 
 module _ (find : Lookup) (m : List ℕ) (laws : Lawful find (length m)) where
   inside : (r : Right) (a n : ℕ) → found (find r a n) ≡ true → placeOf (find r a n) + n ≤ length m
@@ -44,7 +32,7 @@ module _ (find : Lookup) (m : List ℕ) (laws : Lawful find (length m)) where
 
   pub length-perform : (c : Command) → Performable find c → length (perform find c m) ≡ length m
   unfolding perform
-  length-perform (copy d s n) g = length-copied n _ _ m (inside Write d n (g .0)) (inside Read s n (g .1))
+  length-perform (copy d s n) g = length-copied n _ _ m (inside Write d n (g .0 .0)) (inside Read s n (g .0 .1))
   length-perform (fill d n w) g = length-store m _ (repeated (n / 4) w) (rw (filled n w (g .1)) (inside Write d n (g .0)))
   length-perform (exec x) g = refl
   length-perform (other c) g = refl
@@ -64,8 +52,8 @@ module _ (find : Lookup) (m : List ℕ) (laws : Lawful find (length m)) where
         → (q : ℕ) → p ≤ q → q + 4 ≤ p + 16 → take 4 (drop q (perform find c m)) ≡ take 4 (drop q m)
     unfolding perform meetsHeader
     bytes-kept (copy d s n) g o q u v =
-        copied-outside n _ _ m (inside Write d n (g .0)) (inside Read s n (g .1)) q 4
-        (apart-part q 4 _ n (apart-entry d n (g .0) o) u v (omega arith) (omega arith))
+        copied-outside n _ _ m (inside Write d n (g .0 .0)) (inside Read s n (g .0 .1)) q 4
+        (apart-part q 4 _ n (apart-entry d n (g .0 .0) o) u v (omega arith) (omega arith))
     bytes-kept (fill d n w) g o q u v =
         let e = filled n w (g .1) in
         part-outside m _ (repeated (n / 4) w) (rw e (inside Write d n (g .0))) q 4

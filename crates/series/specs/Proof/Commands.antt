@@ -16,10 +16,11 @@ use Rattle.memory_map.specs.Lookup.Laws.{Lawful}
 use Rattle.plan.specs.Plan.{Piece, put, fill, run}
 use Rattle.plan.specs.Plan.Laws.{Packable}
 use Rattle.plan.specs.Meaning.{Permit, allowed, denied, ranged, permit, effect, effects, stretch, Finish, ends, runs, denies, or-deny, finish}
-use Rattle.aplx.specs.Command.{Command}
-use Rattle.aplx.specs.Copy.Laws.{copied-apart}
-use Rattle.aplx.specs.Walk.{placeOf, commands}
-use Rattle.aplx.specs.Load.{meetsHeader, headerTest, perform, performAll}
+use Rattle.aplx_copy.specs.Copy.Laws.{copied-apart}
+use Rattle.aplx_look.specs.Command.{Command}
+use Rattle.aplx_look.specs.Walk.{placeOf, commands}
+use Rattle.aplx_look.specs.Look.{meetsHeader, headerTest}
+use Rattle.aplx.specs.Load.{perform, performAll}
 use Rattle.series.specs.Medium.{Misses}
 use Rattle.series.specs.Proof.Carries.{Says, says-whole, Carries}
 use Rattle.series.specs.Proof.Kept.{effects-keep}

@@ -22,9 +22,9 @@ use Rattle.memory_map.specs.Entry.{legal, kindAt, runEntry}
 use Rattle.plan.specs.Plan.{Piece, put, fill, run}
 use Rattle.plan.specs.Plan.Laws.{Packable}
 use Rattle.plan.specs.Meaning.{ranged, entered, permit, stretch, Finish, ends, runs, denies, or-deny, finish}
-use Rattle.aplx.specs.Command as command
-use Rattle.aplx.specs.Command.{Command, copy, exec, commandOf, commandAt}
-use Rattle.aplx.specs.Walk.{goes, halts, permitted, runOf, otherCommand, tests, judge, Walk, after, walkFor}
+use Rattle.aplx_look.specs.Command as command
+use Rattle.aplx_look.specs.Command.{Command, copy, exec, commandOf, commandAt}
+use Rattle.aplx_look.specs.Walk.{goes, halts, permitted, runOf, otherCommand, tests, judge, Walk, after, walkFor}
 use Rattle.series.specs.Medium.{aplx, endingIn}
 use Rattle.series.specs.Proof.Carries.{EntryAt, Says, EndAt, Carries}
 

@@ -18,9 +18,10 @@ use Rattle.memory_map.specs.Lookup.Laws.{lawful}
 use Rattle.plan.specs.Plan.{Piece}
 use Rattle.plan.specs.Plan.Laws.{Packable}
 use Rattle.plan.specs.Meaning.{effects, stretch, Finish, ends, runs, denies, finish, meant, meaning}
-use Rattle.aplx.specs.Command.{Command}
-use Rattle.aplx.specs.Walk.{Walk, walk, commands}
-use Rattle.aplx.specs.Load.{tested, performAll, look, loadWith}
+use Rattle.aplx_look.specs.Command.{Command}
+use Rattle.aplx_look.specs.Walk.{Walk, walk, commands}
+use Rattle.aplx_look.specs.Look.{tested, look}
+use Rattle.aplx.specs.Load.{performAll, loadWith}
 use Rattle.aplx.specs.Load.Laws.{sound-load}
 use Rattle.series.specs.Series.{Left}
 use Rattle.series.specs.Medium.{aplx, endingIn, Misses, InMemory}

@@ -21,8 +21,9 @@ use Rattle.memory_map.specs.Open as map-group
 use Rattle.srom.specs.Walk.{Walk}
 use Rattle.srom.specs.Load as srom-load
 use Rattle.srom.specs.Load.{sromLook, sromLoad}
+use Rattle.aplx_look.specs.Look.{Look, look, aplxLook}
 use Rattle.aplx.specs.Load as aplx-load
-use Rattle.aplx.specs.Load.{Look, aplxLook, aplxLoad}
+use Rattle.aplx.specs.Load.{aplxLoad}
 use Rattle.plan.specs.Plan as format
 use Rattle.plan.specs.Plan.{Piece, readPlan}
 use Rattle.plan.specs.Packed.{Packed, packs}
@@ -150,7 +151,7 @@ module _ {plan image : List ℕ} {ps : List Piece} (reads : Reads plan ps) where
   unfolding sromLook
   srom-look lies = rw (lies .sized, example-sound, finds)
 
-  aplx-look : Lies (aplx 4096) ps image → aplxLook example (memoryWith image) 4096 ≡ aplx-load.look find (memoryWith image) 4096
+  aplx-look : Lies (aplx 4096) ps image → aplxLook example (memoryWith image) 4096 ≡ look find (memoryWith image) 4096
   unfolding aplxLook
   aplx-look lies = rw (lies .sized, example-sound, finds)
 
@@ -163,7 +164,7 @@ module _ {plan image : List ℕ} {ps : List Piece} (reads : Reads plan ps) where
   pub aplx-loaded :
       (act : Lookup → Look → List ℕ → Loaded) → Demand3 (loadingAplx act) → Lies (aplx 4096) ps image → packAplx plan 256 ≡ packs image
       → (p : ℕ)
-      → getD (act find (aplx-load.look find (memoryWith image) 4096) (memoryWith image) .memory) p 0
+      → getD (act find (look find (memoryWith image) 4096) (memoryWith image) .memory) p 0
       ≡ getD (meaning find ps 0 (memoryWith image) .memory) p 0
   aplx-loaded act demand lies e p = rw (aplx-look lies, finds) at (left (loadingAplx act) demand (aplx 4096) reads lies e p)
 
@@ -177,7 +178,7 @@ module _ {plan image : List ℕ} {ps : List Piece} (reads : Reads plan ps) where
 
   pub aplx-packed :
       (pack : List ℕ → ℕ → Packed) → Demand3 (packingAplx pack) → Lies (aplx 4096) ps image → pack plan 256 ≡ packs image → (p : ℕ)
-      → getD (aplx-load.loaded find (aplx-load.look find (memoryWith image) 4096) (memoryWith image) .memory) p 0
+      → getD (aplx-load.loaded find (look find (memoryWith image) 4096) (memoryWith image) .memory) p 0
       ≡ getD (meaning find ps 0 (memoryWith image) .memory) p 0
   unfolding aplxLoad
   aplx-packed pack demand lies e p = rw (aplx-look lies, finds) at (left (packingAplx pack) demand (aplx 4096) reads lies e p)

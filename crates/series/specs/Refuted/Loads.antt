@@ -11,8 +11,8 @@ use Rattle.srom.specs.Walk.{Walk}
 use Rattle.srom.specs.Load as srom-load
 use Rattle.srom.specs.Load.{storeBlocks, outcomeOfWalk}
 use Rattle.srom.specs.Open as srom-group
-use Rattle.aplx.specs.Load as aplx-load
-use Rattle.aplx.specs.Load.{Look, performAll, outcomeOfLook}
+use Rattle.aplx_look.specs.Look.{Look, look, outcomeOfLook}
+use Rattle.aplx.specs.Load.{performAll}
 use Rattle.aplx.specs.Open as aplx-group
 use Rattle.plan.specs.Open as plan-group
 use Rattle.srom_pack.specs.Image.{sromImage}
@@ -82,7 +82,7 @@ wrong-srom-loads = record {
 
 pub record WrongAplxLoads : Type 0 where
   pub idle-ends :
-      outcomeOfLook (aplx-load.look find (memoryWith (aplxImage (two-pieces 8192 8224))) 4096) ≡ accepted (end 2) 2 64
+      outcomeOfLook (look find (memoryWith (aplxImage (two-pieces 8192 8224))) 4096) ≡ accepted (end 2) 2 64
   pub idle-refuted : Demand3 (loadingAplx idleAplx) → ⊥
   pub first-only-refuted : Demand3 (loadingAplx firstAplx) → ⊥
   pub never-refuted : Demand3 (loadingAplx neverAplx) → ⊥

@@ -18,8 +18,9 @@ use Rattle.memory_map.specs.Open as map-group
 use Rattle.srom.specs.Load as srom-load
 use Rattle.srom.specs.Load.{sromLook, sromLoad}
 use Rattle.srom.specs.Open as srom-group
+use Rattle.aplx_look.specs.Look.{aplxLook}
 use Rattle.aplx.specs.Load as aplx-load
-use Rattle.aplx.specs.Load.{aplxLook, aplxLoad}
+use Rattle.aplx.specs.Load.{aplxLoad}
 use Rattle.aplx.specs.Open as aplx-group
 use Rattle.scp.specs.Answer.{answered, readPacket}
 use Rattle.scp.specs.Open as scp-group

@@ -5,8 +5,9 @@ use lib.ListN.{length}
 use Rattle.memory_map.specs.Outcome.{outcomeOf}
 use Rattle.memory_map.specs.Outcome.Laws.{refused-keeps, accepted-leaves}
 use Rattle.memory_map.specs.Lookup.{lookup}
-use Rattle.aplx.specs.Load.{performAll, bytesIn, aplxLook, aplxLoad}
-use Rattle.aplx.specs.Load.Laws.{Accepted, accepted-look}
+use Rattle.aplx_look.specs.Look.{bytesIn, aplxLook}
+use Rattle.aplx_look.specs.Look.Laws.{Accepted, accepted-look}
+use Rattle.aplx.specs.Load.{performAll, aplxLoad}
 use Rattle.aplx.proofs.load.load.Statement.{statement}
 use Rattle.aplx.proofs.load.load.Tie as tie
 
@@ -14,10 +15,10 @@ use Rattle.aplx.proofs.load.load.Tie as tie
 passed : (c : tie.After-known-told2) → let x = c .before .before .before .before .before .before .args in Accepted (x .map) (x .memory .now) (x .header) (c .before .stop .given .0 .1 .0)
 passed c =
     let x = c .before .before .before .before .before .before .args in
-    accepted-look (x .map) (x .memory .now) (x .header) (sym (c .before .before .before .look-load .ensures) ∙ ap outcomeOf (c .before .stop .given .1))
+    accepted-look (x .map) (x .memory .now) (x .header) (sym (c .before .before .before .look .ensures) ∙ ap outcomeOf (c .before .stop .given .1))
 
-look-load-requires : tie.Need-look-load-requires
-look-load-requires c κs = search needs
+look-requires : tie.Need-look-requires
+look-requires c κs = search needs
 
 enum-known-refusal : tie.Need-enum-known-refusal
 enum-known-refusal c = search needs
@@ -35,7 +36,7 @@ returns : tie.Need-returns
 unfolding aplxLoad
 returns c = let x = c .before .before .before .before .before .before .args in
     let l = aplxLook (x .map) (x .memory .now) (x .header) in
-    let e = sym (c .before .before .before .look-load .ensures) ∙ ap outcomeOf (c .before .refusal .given .1) in
+    let e = sym (c .before .before .before .look .ensures) ∙ ap outcomeOf (c .before .refusal .given .1) in
     simp (e, refused-keeps (length (l .commands)) (bytesIn (l .commands)) (x .memory .now) (performAll (lookup (x .map)) (l .commands) (x .memory .now)) (l .ending) e)
 
 same-length-2 : tie.Need-same-length-2
@@ -46,7 +47,7 @@ unfolding aplxLoad
 returns-2 c = let d = c .before .before .before .before in
     let x = d .before .before .before .before .before .before .args in
     let l = aplxLook (x .map) (x .memory .now) (x .header) in
-    let e = sym (d .before .before .before .look-load .ensures) ∙ ap outcomeOf (d .before .stop .given .1) in
+    let e = sym (d .before .before .before .look .ensures) ∙ ap outcomeOf (d .before .stop .given .1) in
     rw (c .before .before .perform-all .ensures, ← passed d .commands-are)
     (simp (e, accepted-leaves (length (l .commands)) (bytesIn (l .commands)) (x .memory .now) (performAll (lookup (x .map)) (l .commands) (x .memory .now)) (l .ending) e))
 
@@ -54,7 +55,7 @@ pub load-spec : {M : Type 1} → statement M
 load-spec =
     tie.close
     (tie.spec
-    look-load-requires
+    look-requires
     enum-known-refusal
     enum-known-stop
     perform-all-requires

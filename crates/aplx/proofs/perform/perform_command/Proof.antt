@@ -5,9 +5,10 @@ use borrow.Author.Needs.{needs}
 use Rattle.memory_map.specs.declared.region.Right.the-variants.{Read, Write}
 use Rattle.memory_map.specs.Lookup.{lookup}
 use Rattle.memory_map.specs.Lookup.Laws.{lawful}
-use Rattle.aplx.specs.Walk.{placeOf}
+use Rattle.aplx_copy.specs.Copy.Laws.{copied-fits}
+use Rattle.aplx_look.specs.Walk.{placeOf}
+use Rattle.aplx_look.specs.Walk.Laws.{range-inside}
 use Rattle.aplx.specs.Load.{perform}
-use Rattle.aplx.specs.Walk.Laws.{range-inside}
 use Rattle.aplx.proofs.perform.perform_command.Statement.{statement}
 use Rattle.aplx.proofs.perform.perform_command.Tie as tie
 
@@ -48,16 +49,7 @@ place-requires-2 : tie.Need-place-requires-2
 place-requires-2 c κs = search needs
 
 copy-requires : tie.Need-copy-requires
-copy-requires c κs =
-    let k = c .before .before .before .before .before .before in
-    let s = k .before .before .before in
-    let f = k .command .given .0 in
-    let g = rw (k .command .given .1) at (s .pre .1) in
-    let l = lawful (s .args .map) (length (s .args .memory .now)) (s .pre .0) in (
-      range-inside l Write (f .0) (f .1 .1 .0) (target (c .before .before .before)) (g .0),
-      range-inside l Read (f .1 .0) (f .1 .1 .0) (source (c .before)) (g .1),
-      g .2,
-    )
+copy-requires c κs = search needs
 
 enum-known-command-2 : tie.Need-enum-known-command-2
 enum-known-command-2 c = search needs
@@ -91,7 +83,15 @@ unfolding perform
 returns c =
     let p = c .before .before .before .before in
     let t = p .before .before in
-    simp (t .before .before .before .command .given .1, ← target t, ← source p) (c .before .before .copy .ensures)
+    let k = t .before .before .before in
+    let s = k .before .before .before in
+    let f = k .command .given .0 in
+    let g = rw (k .command .given .1) at (s .pre .1) in
+    let m = s .args .memory .now in
+    let l = lawful (s .args .map) (length m) (s .pre .0) in
+    simp (k .command .given .1, ← target t, ← source p)
+    (c .before .before .copy .ensures
+    ∙ copied-fits (f .1 .1 .0) (t .place .result) (p .place2 .result) m (range-inside l Write (f .0) (f .1 .1 .0) (target t) (g .0 .0)) (range-inside l Read (f .1 .0) (f .1 .1 .0) (source p) (g .0 .1)))
 
 same-length-2 : tie.Need-same-length-2
 same-length-2 c = search needs

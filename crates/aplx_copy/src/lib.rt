@@ -1,0 +1,2 @@
+// Copies within memory, as APLX has them.
+pub mod copy; // words from one place to another, lowest first

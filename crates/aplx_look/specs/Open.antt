@@ -1,0 +1,11 @@
+-- A group of definitions that computed examples open together: `unfolding NAME` opens all in the line under NAME. Not needed for belief.
+use Rattle.words.specs.Open as words
+use Rattle.memory_map.specs.Open.{lookups}
+use Rattle.aplx_look.specs.Command.{commandOf, commandAt}
+use Rattle.aplx_look.specs.Walk.{otherCommand, tests, judge, walkFor, walk, commands}
+use Rattle.aplx_look.specs.Look.{meetsHeader, headerTest, bytesIn, look}
+
+-- what a load of entries in memory answers
+unfoldable pub looks : Unit {0}
+unfolding words.tests words.stores lookups look headerTest meetsHeader bytesIn walk walkFor judge tests otherCommand commands commandAt commandOf
+looks = tt
