@@ -1,12 +1,11 @@
 -- `srom_pack::block::fill_block` meets its contract: the header and the turned word repeated adjoin.
-use mathlib.Core.Path.{_≡_, ap, sym, _∙_}
-use Prim.Native.Nat.{ℕ, _+_}
+use mathlib.Core.Path.{ap, sym, _∙_}
+use Prim.Native.Nat.{_+_}
 use native.Mathlib.Omega.{arith}
-use borrow.Rule.Slice.PartMut.{mid-len}
 use Rattle.words.specs.Repeat.{filling}
-use Rattle.words.specs.Repeat.Laws.{length-filling}
+use Rattle.words.specs.Repeat.Laws.{length-filling, fill-part}
 use Rattle.words.specs.Store.{store}
-use Rattle.words.specs.Store.Laws.{store-part, store-fits}
+use Rattle.words.specs.Store.Laws.{store-fits}
 use Rattle.words.specs.Swap.{swapWords}
 use Rattle.words.specs.Swap.Laws.{length-swap, swap-filling}
 use Rattle.srom_pack.proofs.Writing.{block-put}
@@ -55,9 +54,8 @@ returns c =
     let body = c .before .before .fill in
     let d = filling (x .size) (x .word) in
     let n = length-filling (x .size) (x .word) in
-    let k = mid-len p (p + x .size) m (omega arith) in
-    let e : body .last .0 ≡ swapWords d = body .ensures ∙ ap (λ (j : ℕ). filling j (turn .result)) (omega arith) ∙ sym (swap-filling (x .word) (turn .result) (turn .ensures) (x .size) (start .pre .1)) in
-    let f = store-part m p (p + x .size) (body .last .0) (omega arith) (omega arith) (body .kept .0) ∙ ap (store m p) e in
+    let e = sym (swap-filling (x .word) (turn .result) (turn .ensures) (x .size) (start .pre .1)) in
+    let f = fill-part m p (x .size) (turn .result) (body .last .0) (omega arith) (body .ensures) ∙ ap (store m p) e in
     let g = sym (store-fits m p (swapWords d) (omega (arith, length-swap d))) in
     block-put (x .output .now) (x .at) (x .address) m _ d (omega arith) (rw n (front .put-header .ensures)) (f ∙ g)
 
