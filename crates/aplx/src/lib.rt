@@ -1,4 +1,3 @@
 // The APLX loader.
 pub mod load; // the load
 mod perform; // the commands carried out
-mod store; // fills

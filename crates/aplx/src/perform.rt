@@ -27,7 +27,8 @@ fn perform_command(map: Map, memory: &mut [u8], command: Command)
         }
         Command::Fill { to, length, word } => {
             let target = place(map.lookup(Right::Write, to, length));
-            crate::store::fill_words(memory, target, length as usize, word);
+            let end = target + length as usize;
+            words::fill::fill(&mut memory[target..end], word);
         }
         Command::Exec { address: _ } => {}
         Command::Other { command: _ } => {}

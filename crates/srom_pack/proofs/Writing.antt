@@ -1,17 +1,15 @@
 -- A block written part by part: its header, then its data.
 use mathlib.Core.Path.{_≡_, _∙_}
 use mathlib.Core.List.{List, [], _∷_, _++_, append-assoc}
-use Prim.Native.Nat.{ℕ, _+_, _*_, _/_, _≤_}
+use Prim.Native.Nat.{ℕ, _+_, _/_, _≤_}
 use native.Mathlib.Omega.{arith}
 use lib.ListN.{length, set, length-append}
 use Rattle.words.specs.Bytes.{bigEndian}
 use Rattle.words.specs.Bytes.Laws.{length-bigEndian}
-use Rattle.words.specs.Repeat.{repeated}
-use Rattle.words.specs.Repeat.Laws.{length-repeated}
 use Rattle.words.specs.Store.{store, storeIfFits}
 use Rattle.words.specs.Store.Laws.{store-behind, sets-store}
 use Rattle.words.specs.Swap.{swapWords}
-use Rattle.words.specs.Swap.Laws.{length-swap, swap-repeated-more}
+use Rattle.words.specs.Swap.Laws.{length-swap}
 use Rattle.srom_pack.specs.Image.{block}
 
 -- start byte, length in words, address
@@ -40,12 +38,3 @@ module _ (m : List ℕ) (p a : ℕ) (r s : List ℕ) where
       let x = length-header (length d / 4) a in
       let y = length-swap d in
       store-behind m p (header (length d / 4) a) (swapWords d) (p + 7) r s (omega arith) (omega arith) f g ∙ simp append-assoc
-
--- one more word behind i words
-pub fill-more : (m : List ℕ) (p i w : ℕ) (r s : List ℕ) → p + 4 * i + 4 ≤ length m → r ≡ store m p (swapWords (repeated i w))
-    → s ≡ storeIfFits r (p + 4 * i) (bigEndian 4 w) → s ≡ store m p (swapWords (repeated (i + 1) w))
-fill-more m p i w r s h f g =
-    let d = swapWords (repeated i w) in
-    let x : length d ≡ 4 * i = length-swap (repeated i w) ∙ length-repeated i w in
-    let y = length-bigEndian 4 w in
-    rw (swap-repeated-more i w) (store-behind m p d (bigEndian 4 w) (p + 4 * i) r s (omega arith) (omega arith) f g)

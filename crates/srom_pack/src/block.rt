@@ -1,12 +1,11 @@
 // One block of the image.
 ghost use mathlib.Core.Path.{_≡_};
 ghost use mathlib.Core.List.{_∷_, _++_};
-ghost use Prim.Native.Nat.{_+_, _*_, _%_, _≤_};
+ghost use Prim.Native.Nat.{_+_, _%_, _≤_};
 ghost use lib.ListN.{length};
 ghost use Rattle.words.specs.Bytes.{littleEndian, bigEndian};
-ghost use Rattle.words.specs.Repeat.{repeated, filling};
+ghost use Rattle.words.specs.Repeat.{filling};
 ghost use Rattle.words.specs.Store.{store};
-ghost use Rattle.words.specs.Swap.{swapWords};
 ghost use Rattle.plan.specs.Code.{pieceIs};
 ghost use Rattle.plan.specs.Code.Packer.{Writable};
 ghost use Rattle.srom_pack.specs.Image.{block, blockOf};
@@ -30,23 +29,6 @@ fn turned(word: u32) -> u32
     word % 256 * 16777216 + word / 256 % 256 * 65536 + word / 65536 % 256 * 256 + word / 16777216
 }
 
-// A word repeated, Big Endian.
-fn put_fill(output: &mut [u8], at: usize, count: usize, word: u32)
-    requires { ⌜ at + 4 * count ≤ length (now output) ⌝ }
-    ensures { λ _. ⌜ now (output .exit) ≡ store (now (output .entry)) at (swapWords (repeated count word)) ⌝ }
-{
-    let little = turned(word);
-    let mut i: usize = 0;
-    while i < count {
-        let p = at + i * 4;
-        output[p] = (little % 256) as u8;
-        output[p + 1] = (little / 256 % 256) as u8;
-        output[p + 2] = (little / 65536 % 256) as u8;
-        output[p + 3] = (little / 16777216 % 256) as u8;
-        i += 1;
-    }
-}
-
 // A block of a word repeated over so many bytes.
 fn fill_block(output: &mut [u8], at: usize, address: u32, size: usize, word: u32)
     requires { ⌜ (at + (7 + size) ≤ length (now output)) × (size % 4 ≡ 0) × (size ≤ 65536) ⌝ }
@@ -54,7 +36,10 @@ fn fill_block(output: &mut [u8], at: usize, address: u32, size: usize, word: u32
 {
     let count = size / 4;
     put_header(output, at, count as u16, address);
-    put_fill(output, at + 7, count, word);
+    let little = turned(word);
+    let start = at + 7;
+    let end = start + size;
+    words::fill::fill(&mut output[start..end], little);
 }
 
 // A block of bytes that are whole words.

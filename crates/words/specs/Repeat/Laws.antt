@@ -6,10 +6,13 @@ use native.Mathlib.Nat.{zero-add}
 use native.Mathlib.Omega.{arith}
 use lib.ListN.{length, take, length-append}
 use lib.Seq.{take-append-le, take-append-add, length-take-le}
+use borrow.Rule.Slice.PartMut.{midOf, putMid, mid-len}
 use Rattle.words.specs.Bytes.{littleEndian, Bytes}
 use Rattle.words.specs.Bytes.Laws.{length-littleEndian, take-littleEndian, bytes-of}
 use Rattle.words.specs.Choice.Laws.{all-append, all-take}
 use Rattle.words.specs.Repeat.{repeated, filling}
+use Rattle.words.specs.Store.{store}
+use Rattle.words.specs.Store.Laws.{store-part}
 
 pub length-repeated : (k w : ℕ) → length (repeated k w) ≡ 4 * k
 unfolding repeated
@@ -56,6 +59,13 @@ filling-split n w =
 pub filling-whole : (n w : ℕ) → n % 4 ≡ 0 → filling n w ≡ repeated (n / 4) w
 unfolding littleEndian
 filling-whole n w h = rw (filling-split n w, h) (append-nil (repeated (n / 4) w))
+
+-- a part of n bytes at p, lent and come back filled
+pub fill-part : (m : List ℕ) (p n w : ℕ) (d : List ℕ) → p + n ≤ length m → d ≡ filling (length (midOf p (p + n - p) m)) w
+    → putMid p (p + n - p) m d ≡ store m p (filling n w)
+fill-part m p n w d h e =
+    let l : length (midOf p (p + n - p) m) ≡ n = mid-len p (p + n) m h ∙ omega arith in
+    store-part m p (p + n) d (omega arith) h (ap length e ∙ length-filling _ w) ∙ ap (store m p) (rw l at e)
 
 pub filling-bytes : (n w : ℕ) → Bytes (filling n w)
 unfolding filling repeated

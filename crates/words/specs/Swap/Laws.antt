@@ -7,9 +7,9 @@ use lib.ListN.{length, take, drop, length-drop, take-append-drop}
 use lib.Seq.{length-take-le, take-add}
 use Rattle.words.specs.Choice.Laws.{all-reverse}
 use Rattle.words.specs.Bytes.{littleEndian, bigEndian, fromBigEndian, firstBytes, bigEndianAt, Bytes}
-use Rattle.words.specs.Bytes.Laws.{littleEndian-from, word-bytes}
-use Rattle.words.specs.Repeat.{repeated}
-use Rattle.words.specs.Repeat.Laws.{repeated-more, length-repeated}
+use Rattle.words.specs.Bytes.Laws.{length-littleEndian, littleEndian-from, word-bytes}
+use Rattle.words.specs.Repeat.{repeated, filling}
+use Rattle.words.specs.Repeat.Laws.{filling-whole}
 use Rattle.words.specs.Store.{store}
 use Rattle.words.specs.Store.Laws.{store-adjoining}
 use Rattle.words.specs.Swap.{swapWords}
@@ -61,10 +61,16 @@ pub swap-little : (w : ℕ) → swapWords (littleEndian 4 w) ≡ bigEndian 4 w
 unfolding swapWords bigEndian
 swap-little w = simp word-bytes
 
--- one more word behind a word repeated
-pub swap-repeated-more : (k w : ℕ) → swapWords (repeated (k + 1) w) ≡ swapWords (repeated k w) ++ bigEndian 4 w
-swap-repeated-more k w =
-    rw (repeated-more k w, swap-append k (repeated k w) (littleEndian 4 w) (length-repeated k w), swap-little w)
+-- a word repeated becomes the word whose bytes are the other way round, repeated
+module _ (w r : ℕ) (e : littleEndian 4 r ≡ bigEndian 4 w) where
+  swap-repeated : (k : ℕ) → swapWords (repeated k w) ≡ repeated k r
+  unfolding swapWords repeated
+  swap-repeated zero = refl
+  swap-repeated (suc k) =
+      rw (swap-append 1 (littleEndian 4 w) (repeated k w) (length-littleEndian 4 w), swap-little w, swap-repeated k, e)
+
+  pub swap-filling : (n : ℕ) → n % 4 ≡ 0 → swapWords (filling n w) ≡ filling n r
+  swap-filling n h = rw (filling-whole n w h, filling-whole n r h) (swap-repeated (n / 4))
 
 -- k more bytes stored behind p bytes that are whole words
 pub swap-more : (m s : List ℕ) (p k : ℕ) → p % 4 ≡ 0 → p ≤ length s → p ≤ length m

@@ -1,7 +1,11 @@
 -- `aplx::perform::perform_command` meets its contract: the ranges of a command that may be performed lie in memory, at the places that lookup gives.
 use mathlib.Core.Path.{_≡_, ap, _∙_}
+use Prim.Native.Nat.{_+_, _≤_}
+use native.Mathlib.Omega.{arith}
 use lib.ListN.{length}
 use borrow.Author.Needs.{needs}
+use Rattle.words.specs.Repeat.Laws.{filling-whole, fill-part}
+use Rattle.words.specs.Store.{store}
 use Rattle.memory_map.specs.declared.region.Right.the-variants.{Read, Write}
 use Rattle.memory_map.specs.Lookup.{lookup}
 use Rattle.memory_map.specs.Lookup.Laws.{lawful}
@@ -33,6 +37,17 @@ filled-target : (c : tie.After-place3)
     c .place3 .result ≡ placeOf (lookup (k .before .before .before .args .map) Write (f .0) (f .1 .0))
 filled-target c = c .place3 .ensures ∙ ap placeOf (c .before .lookup3 .ensures)
 
+-- it lies in memory
+filled-inside : (c : tie.After-place3)
+    → let k = c .before .before .before in
+    c .place3 .result + k .command2 .given .0 .1 .0 ≤ length (k .before .before .before .args .memory .now)
+filled-inside c =
+    let k = c .before .before .before in
+    let s = k .before .before .before in
+    let f = k .command2 .given .0 in
+    let g = rw (k .command2 .given .1) at (s .pre .1) in
+    range-inside (lawful (s .args .map) (length (s .args .memory .now)) (s .pre .0)) Write (f .0) (f .1 .0) (filled-target c) (g .0)
+
 enum-known-command : tie.Need-enum-known-command
 enum-known-command c = search needs
 
@@ -60,14 +75,20 @@ lookup-requires-3 c κs = search needs
 place-requires-3 : tie.Need-place-requires-3
 place-requires-3 c κs = search needs
 
-fill-words-requires : tie.Need-fill-words-requires
-fill-words-requires c κs =
-    let k = c .before .before .before .before in
-    let s = k .before .before .before in
-    let f = k .command2 .given .0 in
-    let g = rw (k .command2 .given .1) at (s .pre .1) in
-    let l = lawful (s .args .map) (length (s .args .memory .now)) (s .pre .0) in
-    (range-inside l Write (f .0) (f .1 .0) (filled-target (c .before)) (g .0), g .1)
+add-end : tie.Need-add-end
+add-end c = omega (arith, filled-inside c)
+
+sub-fill : tie.Need-sub-fill
+sub-fill c = search needs
+
+part-fill-start : tie.Need-part-fill-start
+part-fill-start c = search needs
+
+part-fill-end : tie.Need-part-fill-end
+part-fill-end c = filled-inside c
+
+fill-requires : tie.Need-fill-requires
+fill-requires c κs = search needs
 
 enum-told : tie.Need-enum-told
 enum-told c = search needs
@@ -100,7 +121,16 @@ returns-2 : tie.Need-returns-2
 unfolding perform
 returns-2 c =
     let t = c .before .before .before .before in
-    simp (t .before .before .before .command2 .given .1, ← filled-target t) (c .before .before .fill-words .ensures)
+    let k = t .before .before .before in
+    let s = k .before .before .before in
+    let f = k .command2 .given .0 in
+    let g = rw (k .command2 .given .1) at (s .pre .1) in
+    let m = s .args .memory .now in
+    let p = t .place3 .result in
+    let d = c .before .before .fill in
+    simp (k .command2 .given .1, ← filled-target t)
+    (fill-part m p (f .1 .0) (f .1 .1 .0) (d .last .0) (filled-inside t) (d .ensures)
+    ∙ ap (store m p) (filling-whole (f .1 .0) (f .1 .1 .0) (g .1)))
 
 returns-3 : tie.Need-returns-3
 unfolding perform
@@ -123,7 +153,11 @@ perform-command-spec =
     enum-known-command-2
     lookup-requires-3
     place-requires-3
-    fill-words-requires
+    add-end
+    sub-fill
+    part-fill-start
+    part-fill-end
+    fill-requires
     enum-told
     enum-told-2
     same-length

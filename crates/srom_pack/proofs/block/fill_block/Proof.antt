@@ -1,12 +1,13 @@
--- `srom_pack::block::fill_block` meets its contract: the header and the word repeated adjoin.
-use mathlib.Core.Path.{sym, _∙_}
+-- `srom_pack::block::fill_block` meets its contract: the header and the turned word repeated adjoin.
+use mathlib.Core.Path.{ap, sym, _∙_}
 use Prim.Native.Nat.{_+_}
 use native.Mathlib.Omega.{arith}
 use Rattle.words.specs.Repeat.{filling}
-use Rattle.words.specs.Repeat.Laws.{length-filling, filling-whole}
+use Rattle.words.specs.Repeat.Laws.{length-filling, fill-part}
+use Rattle.words.specs.Store.{store}
 use Rattle.words.specs.Store.Laws.{store-fits}
 use Rattle.words.specs.Swap.{swapWords}
-use Rattle.words.specs.Swap.Laws.{length-swap}
+use Rattle.words.specs.Swap.Laws.{length-swap, swap-filling}
 use Rattle.srom_pack.proofs.Writing.{block-put}
 use borrow.Author.Needs.{needs}
 use Rattle.srom_pack.proofs.block.fill_block.Statement.{statement}
@@ -18,25 +19,45 @@ cast-put-header c = search needs
 put-header-requires : tie.Need-put-header-requires
 put-header-requires c κs = search needs
 
-add-put-fill : tie.Need-add-put-fill
-add-put-fill c = search needs
+turned-requires : tie.Need-turned-requires
+turned-requires c κs = search needs
 
-put-fill-requires : tie.Need-put-fill-requires
-put-fill-requires c κs = search needs
+add-start : tie.Need-add-start
+add-start c = search needs
+
+add-end : tie.Need-add-end
+add-end c = search needs
+
+sub-fill : tie.Need-sub-fill
+sub-fill c = search needs
+
+part-fill-start : tie.Need-part-fill-start
+part-fill-start c = search needs
+
+part-fill-end : tie.Need-part-fill-end
+part-fill-end c = search needs
+
+fill-requires : tie.Need-fill-requires
+fill-requires c κs = search needs
 
 same-length : tie.Need-same-length
 same-length c = search needs
 
 returns : tie.Need-returns
 returns c =
-    let front = c .before .before .before .before .before .before in
+    let turn = c .before .before .before .before .turned in
+    let front = c .before .before .before .before .before .before .before in
     let start = front .before .before .before in
     let x = start .args in
+    let m = front .put-header .last .0 in
+    let p = x .at + 7 in
+    let body = c .before .before .fill in
     let d = filling (x .size) (x .word) in
     let n = length-filling (x .size) (x .word) in
-    let e = rw (← filling-whole (x .size) (x .word) (start .pre .1)) at (c .before .before .put-fill .ensures) in
-    let f = sym (store-fits (front .put-header .last .0) (x .at + 7) (swapWords d) (omega (arith, length-swap d, front .put-header .kept .0))) in
-    block-put (x .output .now) (x .at) (x .address) _ _ d (omega arith) (rw n (front .put-header .ensures)) (e ∙ f)
+    let e = sym (swap-filling (x .word) (turn .result) (turn .ensures) (x .size) (start .pre .1)) in
+    let f = fill-part m p (x .size) (turn .result) (body .last .0) (omega arith) (body .ensures) ∙ ap (store m p) e in
+    let g = sym (store-fits m p (swapWords d) (omega (arith, length-swap d))) in
+    block-put (x .output .now) (x .at) (x .address) m _ d (omega arith) (rw n (front .put-header .ensures)) (f ∙ g)
 
 pub fill-block-spec : {M : Type 1} → statement M
 fill-block-spec =
@@ -44,7 +65,12 @@ fill-block-spec =
     (tie.spec
     cast-put-header
     put-header-requires
-    add-put-fill
-    put-fill-requires
+    turned-requires
+    add-start
+    add-end
+    sub-fill
+    part-fill-start
+    part-fill-end
+    fill-requires
     same-length
     returns)
