@@ -2,7 +2,7 @@
 ghost use mathlib.Core.Path.{_≡_};
 ghost use Prim.Native.Nat.{_+_, _<_, _≤_};
 ghost use lib.ListN.{length};
-ghost use Rattle.words.specs.Choice.{every};
+ghost use Rattle.words.specs.Choice.{if_then_else_, every};
 ghost use Rattle.memory_map.specs.Region.{endsInside};
 ghost use Rattle.memory_map.specs.Map.Ascending.{ascending};
 ghost use Rattle.memory_map.specs.Map.{regionsOf, allKeepRules, emptyMap, wellFormed, sound, refused, add, additionOf};
@@ -144,16 +144,6 @@ impl Map {
         self.all_clear()
     }
 
-    // Whether the map keeps every rule that needs no buffer.
-    pub fn well_formed(self) -> bool
-        ensures { λ r. ⌜ r ≡ wellFormed self ⌝ }
-    {
-        if self.count > 8 {
-            return false;
-        }
-        self.keeps_rules()
-    }
-
     // Whether every region ends inside a buffer of so many bytes.
     fn ends_inside(self, size: usize) -> bool
         ensures { λ r. ⌜ r ≡ every (endsInside size) (regionsOf self) ⌝ }
@@ -173,15 +163,35 @@ impl Map {
         true
     }
 
+    // Whether the map keeps every rule that needs no buffer and, where one is given, is sound for a buffer of so many bytes.
+    fn passes(self, buffered: bool, size: usize) -> bool
+        ensures { λ r. ⌜ r ≡ (if buffered then sound self size else wellFormed self) ⌝ }
+    {
+        if self.count > 8 {
+            return false;
+        }
+        if !self.keeps_rules() {
+            return false;
+        }
+        if buffered {
+            self.ends_inside(size)
+        } else {
+            true
+        }
+    }
+
+    // Whether the map keeps every rule that needs no buffer.
+    pub fn well_formed(self) -> bool
+        ensures { λ r. ⌜ r ≡ wellFormed self ⌝ }
+    {
+        self.passes(false, 0)
+    }
+
     // Whether the map is sound for a buffer of so many bytes.
     pub fn sound(self, size: usize) -> bool
         ensures { λ r. ⌜ r ≡ sound self size ⌝ }
     {
-        if self.well_formed() {
-            self.ends_inside(size)
-        } else {
-            false
-        }
+        self.passes(true, size)
     }
 
     // The map with a region more, or, refused, the map as it was.

@@ -43,6 +43,11 @@ module _ {A : Type 0} {x y z : A} where
   from-either true f g e = f e
   from-either false f g e = g e
 
+  -- where both arms do
+  pub to-both : (t : Bool) → x ≡ z → y ≡ z → (if t then x else y) ≡ z
+  to-both true e f = e
+  to-both false e f = f
+
 -- ---- every element
 pub every-all : {A : Type 0} (t : A → Bool) (l : List A) → every t l ≡ true → All (λ x. t x ≡ true) l
 unfolding every
