@@ -92,17 +92,17 @@ module _ (m : Map) (i : ℕ) where
   unfolding allKeepRules
   rules-end h = rw (none h)
 
-  module _ (a p : ℕ) where
-    pub ascending-fails : i < length (regionsOf m) → follows a p (regionAt m i) ≡ false → ascending a p (drop i (regionsOf m)) ≡ false
+  module _ (k a p : ℕ) where
+    pub ascending-fails : i < length (regionsOf m) → follows k a p (regionAt m i) ≡ false → ascending k a p (drop i (regionsOf m)) ≡ false
     unfolding ascending
     ascending-fails h e = simp (next h, e)
 
-    pub ascending-goes : i < length (regionsOf m) → follows a p (regionAt m i) ≡ true → ascending a p (drop i (regionsOf m))
-        ≡ ascending (regionAt m i .base + regionAt m i .length) (regionAt m i .place + regionAt m i .length) (drop (i + 1) (regionsOf m))
+    pub ascending-goes : i < length (regionsOf m) → follows k a p (regionAt m i) ≡ true → ascending k a p (drop i (regionsOf m))
+        ≡ ascending k (regionAt m i .base + regionAt m i .length) (regionAt m i .place + regionAt m i .length) (drop (i + 1) (regionsOf m))
     unfolding ascending
     ascending-goes h e = simp (next h, e)
 
-    pub ascending-end : length (regionsOf m) ≤ i → ascending a p (drop i (regionsOf m)) ≡ true
+    pub ascending-end : length (regionsOf m) ≤ i → ascending k a p (drop i (regionsOf m)) ≡ true
     unfolding ascending
     ascending-end h = rw (none h)
 

@@ -87,9 +87,10 @@ impl Map {
         if n < 8 { n } else { 8 }
     }
 
-    // Whether each region in use keeps its own rules, and begins where the one before it ends or behind that, in addresses and in places.
-    fn ascends(self) -> bool
-        ensures { λ r. ⌜ r ≡ ascending 0 0 (regionsOf self) ⌝ }
+    // Whether each region in use keeps its own rules, begins where the one before it ends or behind that, in addresses and in places, and ends
+    // inside a buffer of so many bytes.
+    fn ascends(self, size: usize) -> bool
+        ensures { λ r. ⌜ r ≡ ascending size 0 0 (regionsOf self) ⌝ }
     {
         let n = self.count;
         let mut address: u64 = 0;
@@ -100,7 +101,7 @@ impl Map {
                 return true;
             }
             let region = self.regions[i];
-            if !region.follows(address, place) {
+            if !region.follows(size, address, place) {
                 return false;
             }
             address = region.base as u64 + region.length as u64;
@@ -134,16 +135,6 @@ impl Map {
         true
     }
 
-    // Whether the regions in use keep every rule that needs no buffer. Regions that ascend do; only others are compared each with each.
-    fn keeps_rules(self) -> bool
-        ensures { λ r. ⌜ r ≡ allKeepRules (regionsOf self) ⌝ }
-    {
-        if self.ascends() {
-            return true;
-        }
-        self.all_clear()
-    }
-
     // Whether every region ends inside a buffer of so many bytes.
     fn ends_inside(self, size: usize) -> bool
         ensures { λ r. ⌜ r ≡ every (endsInside size) (regionsOf self) ⌝ }
@@ -163,14 +154,18 @@ impl Map {
         true
     }
 
-    // Whether the map keeps every rule that needs no buffer and, where one is given, is sound for a buffer of so many bytes.
+    // Whether the map keeps every rule that needs no buffer and, where one is given, is sound for a buffer of so many bytes. Regions that
+    // ascend are not compared each with each.
     fn passes(self, buffered: bool, size: usize) -> bool
         ensures { λ r. ⌜ r ≡ (if buffered then sound self size else wellFormed self) ⌝ }
     {
         if self.count > 8 {
             return false;
         }
-        if !self.keeps_rules() {
+        if self.ascends(size) {
+            return true;
+        }
+        if !self.all_clear() {
             return false;
         }
         if buffered {
@@ -184,7 +179,7 @@ impl Map {
     pub fn well_formed(self) -> bool
         ensures { λ r. ⌜ r ≡ wellFormed self ⌝ }
     {
-        self.passes(false, 0)
+        self.passes(false, 8589934592)
     }
 
     // Whether the map is sound for a buffer of so many bytes.

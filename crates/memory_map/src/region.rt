@@ -56,14 +56,17 @@ impl Region {
         base as u64 + length as u64 <= 4294967280
     }
 
-    // Whether it keeps the rules, and begins at or behind an address and a place.
-    pub(crate) fn follows(self, address: u64, place: u64) -> bool
-        ensures { λ r. ⌜ r ≡ follows address place self ⌝ }
+    // Whether it keeps the rules, begins at or behind an address and a place, and ends inside a buffer of so many bytes.
+    pub(crate) fn follows(self, size: usize, address: u64, place: u64) -> bool
+        ensures { λ r. ⌜ r ≡ follows size address place self ⌝ }
     {
         if (self.base as u64) < address {
             return false;
         }
         if (self.place as u64) < place {
+            return false;
+        }
+        if !self.ends_inside(size) {
             return false;
         }
         self.keeps_rules()

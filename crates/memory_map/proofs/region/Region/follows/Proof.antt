@@ -1,7 +1,8 @@
--- `memory_map::region::Region::follows` meets its contract: the three tests of the definition.
+-- `memory_map::region::Region::follows` meets its contract: the four tests of the definition.
 use borrow.Author.Needs.{needs}
+use mathlib.Core.Path.{sym, _∙_}
 use native.Mathlib.Omega.{arith}
-use borrow.Author.Tests.{le-leb, lt-leb}
+use borrow.Author.Tests.{le-leb, lt-leb, not-true, not-false}
 use Rattle.memory_map.specs.Map.Ascending.{follows}
 use Rattle.memory_map.proofs.region.Region.follows.Statement.{statement}
 use Rattle.memory_map.proofs.region.Region.follows.Tie as tie
@@ -20,13 +21,29 @@ returns-2 : tie.Need-returns-2
 unfolding follows
 returns-2 c = let x = c .before .before .before .before .args in simp (le-leb (x .address) (x .self .base) (omega arith), lt-leb (x .place) (x .self .place) (omega arith))
 
-keeps-rules-requires : tie.Need-keeps-rules-requires
-keeps-rules-requires c κs = search needs
+ends-inside-requires : tie.Need-ends-inside-requires
+ends-inside-requires c κs = search needs
 
 returns-3 : tie.Need-returns-3
 unfolding follows
-returns-3 c = let x = c .before .before .before .before .before .args in simp (c .keeps-rules .ensures, le-leb (x .address) (x .self .base) (omega arith), le-leb (x .place) (x .self .place) (omega arith))
+returns-3 c = let x = c .before .before .before .before .before .before .args in simp (le-leb (x .address) (x .self .base) (omega arith), le-leb (x .place) (x .self .place) (omega arith), sym (c .before .ends-inside .ensures) ∙ not-true _ (c .if3 .taken))
+
+keeps-rules-requires : tie.Need-keeps-rules-requires
+keeps-rules-requires c κs = search needs
+
+returns-4 : tie.Need-returns-4
+unfolding follows
+returns-4 c = let x = c .before .before .before .before .before .before .before .args in simp (le-leb (x .address) (x .self .base) (omega arith), le-leb (x .place) (x .self .place) (omega arith), sym (c .before .before .ends-inside .ensures) ∙ not-false _ (c .before .if3 .left), c .keeps-rules .ensures)
 
 pub follows-spec : {M : Type 1} → statement M
 follows-spec =
-    tie.close (tie.spec cast-if1 returns cast-if2 returns-2 keeps-rules-requires returns-3)
+    tie.close
+    (tie.spec
+    cast-if1
+    returns
+    cast-if2
+    returns-2
+    ends-inside-requires
+    returns-3
+    keeps-rules-requires
+    returns-4)
