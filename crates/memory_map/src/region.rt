@@ -1,5 +1,7 @@
 // One region of memory.
 ghost use mathlib.Core.Path.{_≡_};
+ghost use mathlib.Core.Bool.{not};
+ghost use Rattle.words.specs.Range.{meets};
 ghost use Rattle.memory_map.specs.Map.Ascending.{follows};
 ghost use Rattle.memory_map.specs.Region.{allows, keepsRules, clear, endsInside, permits, placeIn};
 
@@ -21,6 +23,22 @@ pub struct Region {
     pub length: u32,
     pub place: u32,
     pub rights: Rights,
+}
+
+// Whether n numbers from a on and k numbers from b on share none. The likely cases come first; sums of two words do not wrap.
+fn apart(a: u32, n: u32, b: u32, k: u32) -> bool
+    ensures { λ r. ⌜ r ≡ not (meets a n b k) ⌝ }
+{
+    if a as u64 + n as u64 <= b as u64 {
+        return true;
+    }
+    if b as u64 + k as u64 <= a as u64 {
+        return true;
+    }
+    if n == 0 {
+        return true;
+    }
+    k == 0
 }
 
 impl Region {
@@ -76,23 +94,10 @@ impl Region {
     pub(crate) fn clear_of(self, other: Region) -> bool
         ensures { λ r. ⌜ r ≡ clear self other ⌝ }
     {
-        if words::range::share(
-            self.base as u64,
-            self.length as u64,
-            other.base as u64,
-            other.length as u64,
-        ) {
-            return false;
+        if apart(self.base, self.length, other.base, other.length) {
+            return apart(self.place, self.length, other.place, other.length);
         }
-        if words::range::share(
-            self.place as u64,
-            self.length as u64,
-            other.place as u64,
-            other.length as u64,
-        ) {
-            return false;
-        }
-        true
+        false
     }
 
     // Whether it ends inside a buffer of so many bytes.

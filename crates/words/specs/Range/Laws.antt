@@ -1,10 +1,10 @@
 -- Laws of ranges.
 use mathlib.Core.Path.{_≡_, refl, sym, _∙_}
-use mathlib.Core.Bool.{Bool, true, false, _&&_}
+use mathlib.Core.Bool.{Bool, true, false, not, _&&_}
 use Prim.Native.Nat.{ℕ, suc, _+_, _-_, _≤_, _<_}
 use native.Mathlib.Omega.{arith}
-use lib.Dec.{ltb, leb}
-use borrow.Author.Tests.{ltb-true, ltb-false, lt-ltb, le-ltb, leb-true, leb-false, lt-leb}
+use lib.Dec.{ltb, leb, eqb}
+use borrow.Author.Tests.{ltb-true, ltb-false, lt-ltb, le-ltb, leb-true, leb-false, lt-leb, eqb-true, eqb-false}
 use Rattle.words.specs.Choice.Laws.{true-is-false, both, leb-same}
 use Rattle.words.specs.Range.{meets}
 
@@ -133,6 +133,15 @@ module _ (a n b k : ℕ) where
       misses : (t : Bool) → meets a n b k ≡ t → meets a n b k ≡ false
       misses true e = let s = meets-shared a n b k e in absurd (omega arith)
       misses false e = e
+
+  -- neither ends before the other begins: they share none where the second is empty
+  pub misses-by-length : b < a + n → a < b + k → (n ≡ 0 → ⊥) → eqb k 0 ≡ not (meets a n b k)
+  unfolding meets
+  misses-by-length h i p = go (eqb k 0) refl
+    where
+      go : (t : Bool) → eqb k 0 ≡ t → eqb k 0 ≡ not (ltb 0 n && ltb 0 k && ltb a (b + k) && ltb b (a + n))
+      go true e = simp (e, lt-ltb 0 n (omega arith), le-ltb 0 k (omega (arith, eqb-true k 0 e)))
+      go false e = let z = eqb-false k 0 e in simp (e, lt-ltb 0 n (omega arith), lt-ltb 0 k (omega arith), lt-ltb a (b + k) i, lt-ltb b (a + n) h)
 
   pub meets-upward : 0 < n → 0 < k → a ≤ b → meets a n b k ≡ ltb (b - a) n
   unfolding meets
