@@ -1,8 +1,8 @@
 -- Steps of the loops over the regions in use.
-use mathlib.Core.Path.{_≡_, refl, ap, sym, _∙_}
+use mathlib.Core.Path.{_≡_}
 use mathlib.Core.Bool.{Bool, true, false, _&&_}
-use mathlib.Core.List.{List, [], _∷_}
-use Prim.Native.Nat.{ℕ, zero, suc, _+_, _≤_, _<_}
+use mathlib.Core.List.{[], _∷_}
+use Prim.Native.Nat.{ℕ, _+_, _≤_, _<_}
 use native.Mathlib.Numerals.{add-one}
 use native.Mathlib.Omega.{arith}
 use lib.ListN.{length, take, drop, length-take, drop-of-length-le}
@@ -14,31 +14,13 @@ use Rattle.memory_map.specs.declared.map.Map.{Map}
 use Rattle.memory_map.specs.Region.{keepsRules, clear, permits, placeIn}
 use Rattle.memory_map.specs.Map.{noRegion, regionAt, regionsOf, allKeepRules}
 use Rattle.memory_map.specs.Map.Ascending.{follows, ascending}
-use Rattle.memory_map.specs.Lookup.{at, refused, lookupIn, lookup}
-use Rattle.memory_map.specs.Lookup.Laws.{lookup-computes}
+use Rattle.memory_map.specs.Lookup.{at, refused, lookupIn}
 
 pub length-regions : (m : Map) → length (m .regions) ≡ 8 → (m .count < 8 → length (regionsOf m) ≡ m .count) × (8 ≤ m .count → length (regionsOf m) ≡ 8)
 unfolding regionsOf
 length-regions m e =
     let l : length (take (m .count) (m .regions)) ≡ _ = length-take (m .count) (m .regions) in
     (λ h. omega arith, λ h. omega arith)
-
--- a map of these regions, of which n are in use
-abbrev pub counted : List Region → ℕ → Map
-counted l n = record { regions = l; count = n }
-
-take-taken : (k : ℕ) (l : List Region) → take (length (take k l)) l ≡ take k l
-take-taken zero l = refl
-take-taken (suc k) [] = refl
-take-taken (suc k) (g ∷ l) = ap (λ r. g ∷ r) (take-taken k l)
-
--- its count may be the number of those in use
-pub same-regions : (m : Map) {n : ℕ} → n ≡ length (regionsOf m) → regionsOf (counted (m .regions) n) ≡ regionsOf m
-unfolding regionsOf
-same-regions m e = rw e (take-taken (m .count) (m .regions))
-
-pub length-counted : (m : Map) {n : ℕ} → n ≡ length (regionsOf m) → length (regionsOf (counted (m .regions) n)) ≡ n
-length-counted m e = ap length (same-regions m e) ∙ sym e
 
 -- the eight regions, of which those before the count are in use
 module _ (m : Map) (i : ℕ) (whole : length (m .regions) ≡ 8) where
@@ -119,6 +101,3 @@ module _ (m : Map) (i : ℕ) where
     pub search-end : length (regionsOf m) ≤ i → lookupIn (drop i (regionsOf m)) r a n ≡ refused 4
     unfolding lookupIn
     search-end h = rw (none h)
-
-pub whole-lookup : (m : Map) {n : ℕ} → n ≡ length (regionsOf m) → (r : Right) (a k : ℕ) → lookupIn (regionsOf (counted (m .regions) n)) r a k ≡ lookup m r a k
-whole-lookup m e r a k = rw (same-regions m e) (sym (lookup-computes m r a k))

@@ -213,11 +213,10 @@ impl Map {
     pub fn lookup(self, right: Right, address: u32, length: u64) -> Found
         ensures { λ r. ⌜ foundOf r ≡ lookup self right address length ⌝ }
     {
-        let regions = self.regions;
         let n = self.used();
         let mut i: usize = 0;
         while i < n {
-            let region = regions[i];
+            let region = self.regions[i];
             if region.permits(right, address, length) {
                 return Found::At(region.place_of(address));
             }
