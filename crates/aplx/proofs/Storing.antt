@@ -34,7 +34,6 @@ pub record Progress (find : Lookup) (m₀ : List ℕ) (h k : ℕ) (m : List ℕ)
 
 -- what holds where the next entry is one of them
 pub record Next (find : Lookup) (m₀ : List ℕ) (h k : ℕ) (m : List ℕ) (a i : ℕ) : Type 0 where
-  pub inside : placeOf (find Read a 16) + 16 ≤ length m
   pub below : a + 16 ≤ 4294967280
   pub performable : Performable find (entryAt find m a)
   pub progress : Progress find m₀ h k (perform find (entryAt find m a) m) (a + 16) (i + 1)
@@ -83,7 +82,6 @@ module _ {find : Lookup} {m₀ : List ℕ} {h k : ℕ} {m : List ℕ} {a i : ℕ
     pub next : Next find m₀ h k m a i
     next =
         record {
-          inside = rw (found-place (here .found-there)) (now-lawful .inside Read a 16 _ (here .found-there));
           below = laws .below Read a 16 _ (here .found-there);
           performable = may;
           progress = further;

@@ -34,7 +34,7 @@ record Copies : Type 0 where
   pub before-header-outcome : loadWith find (memory behind) 4128 .outcome ≡ accepted (end 1) 1 32
 
 copies : Copies
-unfolding up down behind ones left memory entry last find group.load
+unfolding up down behind ones left memory last find group.load
 copies = record { upward = refl; downward = refl; before-header = refl; before-header-outcome = refl }
 
 record Fills : Type 0 where
@@ -44,5 +44,5 @@ record Fills : Type 0 where
       ≡ record { outcome = refused 4 1; memory = memory (entry 3 4224 32 9 ++ (entry 3 8192 32 9 ++ last)) }
 
 fills : Fills
-unfolding left memory entry last find group.load
+unfolding left memory last find group.load
 fills = record { filled = refl; second-refused = refl }

@@ -44,7 +44,7 @@ pub(crate) fn perform_all(map: Map, memory: &mut [u8], header: u32, count: usize
     let mut i: usize = 0;
     while i < count {
         let entry = place(map.lookup(Right::Read, address, 16));
-        let command = aplx_look::command::command_in(&memory[entry..], address);
+        let command = aplx_look::command::command_at(memory, entry, address);
         perform_command(map, memory, command);
         address += 16;
         i += 1;

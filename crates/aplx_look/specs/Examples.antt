@@ -4,7 +4,7 @@ use mathlib.Core.Bool.{true, false}
 use mathlib.Core.List.{List, [], _∷_, _++_}
 use Prim.Native.Nat.{ℕ}
 use lib.ListN.{take, replicate}
-use Rattle.words.specs.Bytes.{littleEndian}
+use Rattle.words.specs.Four.{fourBytes}
 use Rattle.memory_map.specs.declared.region.Region.{Region}
 use Rattle.memory_map.specs.Outcome.{Outcome, refused, accepted, end, unknown, run, arm, thumb}
 use Rattle.memory_map.specs.Lookup.{Lookup, lookupIn}
@@ -21,8 +21,8 @@ rom = record { base = 8192; length = 64; place = 256; rights = record { read = t
 unfoldable pub find : Lookup
 find = lookupIn (ram ∷ rom ∷ [])
 
-unfoldable pub entry : ℕ → ℕ → ℕ → ℕ → List ℕ
-entry c x y z = littleEndian 4 c ++ (littleEndian 4 x ++ (littleEndian 4 y ++ littleEndian 4 z))
+abbrev pub entry : ℕ → ℕ → ℕ → ℕ → List ℕ
+entry c x y z = fourBytes c x y z
 
 unfoldable pub last : List ℕ
 last = entry 0xffffffff 0 0 0
@@ -43,7 +43,7 @@ record Lengths : Type 0 where
   pub longest : outcome (entry 3 4224 0xffffffff 9 ++ last) ≡ refused 4 0
 
 lengths : Lengths
-unfolding outcome memory entry last find group.looks
+unfolding outcome memory last find group.looks
 lengths = record { zero = refl; one = refl; whole = refl; over = refl; longest = refl }
 
 -- stops and refusals
@@ -75,7 +75,7 @@ record Stops : Type 0 where
   pub nine-before-eight : outcome (entry 3 4096 32 9 ++ entry 4 4098 0 0) ≡ refused 9 1
 
 stops : Stops
-unfolding outcome memory entry last find group.looks
+unfolding outcome memory last find group.looks
 stops = record {
   end-first = refl;
   unknown-word = refl;

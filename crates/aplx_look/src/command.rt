@@ -2,7 +2,6 @@
 ghost use mathlib.Core.Path.{_≡_};
 ghost use Rattle.aplx_look.specs.Command.{commandOf, commandAt};
 ghost use Rattle.aplx_look.specs.Code.{commandIs};
-use words::read::le_word_at;
 
 // Lengths are rounded up, and a source is an address.
 pub enum Command {
@@ -44,13 +43,10 @@ fn command_of(address: u32, c: u32, x: u32, y: u32, z: u32) -> Command
     Command::Other { command: c }
 }
 
-// The entry at an address, whose bytes stand at the front of a slice. Bytes past its end count as zero.
-pub fn command_in(entry: &[u8], address: u32) -> Command
-    ensures { λ r. ⌜ commandIs r ≡ commandAt (now (entry .entry)) 0 address ⌝ }
+// The entry at an address, at a place of memory. Bytes past its end count as zero.
+pub fn command_at(memory: &[u8], place: usize, address: u32) -> Command
+    ensures { λ r. ⌜ commandIs r ≡ commandAt (now (memory .entry)) place address ⌝ }
 {
-    let c = le_word_at(entry, 0);
-    let x = le_word_at(entry, 4);
-    let y = le_word_at(entry, 8);
-    let z = le_word_at(entry, 12);
-    command_of(address, c, x, y, z)
+    let w = words::four::read(memory, place);
+    command_of(address, w.first, w.second, w.third, w.fourth)
 }

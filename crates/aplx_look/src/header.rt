@@ -74,7 +74,7 @@ pub(crate) fn check_header(map: Map, memory: &[u8], header: u32, count: usize) -
     let mut i: usize = 0;
     while i < count {
         let entry = place(map.lookup(Right::Read, address, 16));
-        let command = crate::command::command_in(&memory[entry..], address);
+        let command = crate::command::command_at(memory, entry, address);
         if meets_header(command, header, size) {
             return Header::Met { index: i };
         }

@@ -140,7 +140,7 @@ pub(crate) fn judge_entry(map: Map, memory: &[u8], address: u32, index: usize) -
 {
     match map.lookup(Right::Read, address, 16) {
         Found::At(place) => {
-            let command = crate::command::command_in(&memory[place..], address);
+            let command = crate::command::command_at(memory, place, address);
             judge_command(map, command, address, index)
         }
         Found::Refused(_) => Verdict::Refused(Refusal {

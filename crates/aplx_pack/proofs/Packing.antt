@@ -6,6 +6,8 @@ use native.Mathlib.Numerals.{add-one}
 use native.Mathlib.Omega.{arith}
 use lib.ListN.{length, take, drop, getD, length-append, length-drop, take-append-drop, drop-of-length-le}
 use lib.Seq.{length-take-le, take-add, take-at, take-suc, take-length, drop-cons}
+use Rattle.words.specs.Four.{fourBytes}
+use Rattle.words.specs.Four.Laws.{length-fourBytes}
 use Rattle.words.specs.Store.{store}
 use Rattle.words.specs.Store.Laws.{length-store, store-adjoining, store-nil}
 use Rattle.plan.specs.declared.piece.Piece as code-piece
@@ -14,8 +16,8 @@ use Rattle.plan.specs.Packed.{planPieces}
 use Rattle.plan.specs.Code.{putLength, pieceIs}
 use Rattle.plan.specs.Code.Packer.{Writable}
 use Rattle.plan.specs.Code.Laws.{lengths, Found}
-use Rattle.aplx_pack.specs.Image.{entry, entryOf, entries, datas, aplxImage}
-use Rattle.aplx_pack.specs.Image.Laws.{length-entry, length-entryOf, length-entries, drop-entries, datas-append, datas-split}
+use Rattle.aplx_pack.specs.Image.{entryOf, entries, datas, aplxImage}
+use Rattle.aplx_pack.specs.Image.Laws.{length-entryOf, length-entries, drop-entries, datas-append, datas-split}
 use Rattle.aplx_pack.proofs.Writing.{front-grows, both-grow}
 
 -- the place of the data of piece i; the image's end where i is the count
@@ -80,10 +82,10 @@ module _ (ps : List Piece) where
   length-front : (i : ℕ) → i ≤ length ps → length (front ps i) ≡ 16 * i
   length-front i h = length-take-le (16 * i) (entries 0 ps) (omega (arith, length-entries 0 ps))
 
-  front-all : front ps (length ps) ++ entry 0xffffffff 0 0 0 ≡ entries 0 ps
+  front-all : front ps (length ps) ++ fourBytes 0xffffffff 0 0 0 ≡ entries 0 ps
   unfolding entries
   front-all =
-      let e : drop (16 * length ps) (entries 0 ps) ≡ entry 0xffffffff 0 0 0 =
+      let e : drop (16 * length ps) (entries 0 ps) ≡ fourBytes 0xffffffff 0 0 0 =
       drop-entries ps (length ps) 0 (omega arith) ∙ rw (drop-of-length-le ps {i = length ps} (omega arith)) in
       rw (← e) (take-append-drop (16 * length ps) (entries 0 ps))
 
@@ -114,12 +116,12 @@ module _ (ps : List Piece) where
           rw (e, f, g) (both-grow m (front ps i) d (16 * (length ps + 1)) entry (omega arith) (dataOf p) (16 * i) (dataAt ps i) (sym l) refl (omega (arith, data-inside (i + 1))))
 
       -- with the end entry that is the image
-      pub written-all : (out : List ℕ) → Written m out (length ps) → store out (16 * length ps) (entry 0xffffffff 0 0 0) ≡ store m 0 (aplxImage ps)
+      pub written-all : (out : List ℕ) → Written m out (length ps) → store out (16 * length ps) (fourBytes 0xffffffff 0 0 0) ≡ store m 0 (aplxImage ps)
       unfolding aplxImage
       written-all out e =
           let q = 16 * (length ps + 1) in
-          let n = length-entry 0xffffffff 0 0 0 in
+          let n = length-fourBytes 0xffffffff 0 0 0 in
           let l = length-front (length ps) (omega arith) in
           let k : q ≡ 0 + length (entries 0 ps) = omega (arith, length-entries 0 ps) in
-          let g = front-grows m (front ps (length ps)) (datas (take (length ps) ps)) q (entry 0xffffffff 0 0 0) (omega arith) (16 * length ps) (sym l) (omega (arith, image-end)) in
+          let g = front-grows m (front ps (length ps)) (datas (take (length ps) ps)) q (fourBytes 0xffffffff 0 0 0) (omega arith) (16 * length ps) (sym l) (omega (arith, image-end)) in
           rw (e, g, front-all, take-length ps, k) (store-adjoining m 0 (entries 0 ps) (omega (arith, image-end)) (datas ps))

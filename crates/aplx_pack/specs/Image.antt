@@ -3,24 +3,20 @@ pub mod Laws
 use mathlib.Core.List.{List, [], _∷_, _++_}
 use Prim.Native.Nat.{ℕ, suc, _+_, _*_}
 use lib.ListN.{length}
-use Rattle.words.specs.Bytes.{littleEndian}
+use Rattle.words.specs.Four.{fourBytes}
 use Rattle.plan.specs.Plan.{Piece, put, fill, run, dataOf, readPlan}
 use Rattle.plan.specs.Packed.{Packed, packedAs}
 
--- four Little Endian words
-unfoldable pub entry : ℕ → ℕ → ℕ → ℕ → List ℕ
-entry c x y z = littleEndian 4 c ++ (littleEndian 4 x ++ (littleEndian 4 y ++ littleEndian 4 z))
-
 -- "one entry per piece in plan order (RCOPY, FILL, EXEC; unused words zero)"; the data of a put lies off bytes behind its entry's start
 unfoldable pub entryOf : Piece → ℕ → List ℕ
-entryOf (put a d) off = entry 2 a off (length d)
-entryOf (fill a n w) off = entry 3 a n w
-entryOf (run a) off = entry 4 a 0 0
+entryOf (put a d) off = fourBytes 2 a off (length d)
+entryOf (fill a n w) off = fourBytes 3 a n w
+entryOf (run a) off = fourBytes 4 a 0 0
 
 -- the entries of pieces, and "an end entry of 0xFFFFFFFF and three zeros". Behind the first entry come those of the other pieces, the
 -- end entry, and so many bytes of data of earlier pieces
 unfoldable pub entries : ℕ → List Piece → List ℕ
-entries earlier [] = entry 0xffffffff 0 0 0
+entries earlier [] = fourBytes 0xffffffff 0 0 0
 entries earlier (p ∷ ps) = entryOf p (16 * suc (suc (length ps)) + earlier) ++ entries (earlier + length (dataOf p)) ps
 
 -- "then the data of the puts in order"

@@ -1,8 +1,8 @@
 -- Groups of definitions that computed examples open together: `unfolding NAME` opens all in the line under NAME. Not needed for belief.
 use Rattle.plan.specs.Open.{reader}
-use Rattle.aplx_pack.specs.Image.{entry, entryOf, entries, datas, aplxImage, packAplx}
+use Rattle.aplx_pack.specs.Image.{entryOf, entries, datas, aplxImage, packAplx}
 
 -- the image of a plan, and the packer
 unfoldable pub image : Unit {0}
-unfolding reader packAplx aplxImage entries entryOf entry datas
+unfolding reader packAplx aplxImage entries entryOf datas
 image = tt

@@ -6,26 +6,8 @@ ghost use Rattle.words.specs.Store.{store};
 ghost use Rattle.plan.specs.Plan.{dataOf};
 ghost use Rattle.plan.specs.Code.{putLength, pieceIs};
 ghost use Rattle.plan.specs.Code.Packer.{Writable};
-ghost use Rattle.aplx_pack.specs.Image.{entry, entryOf};
+ghost use Rattle.aplx_pack.specs.Image.{entryOf};
 use plan::piece::Piece;
-
-// Four words.
-pub(crate) fn put_entry(
-    output: &mut [u8],
-    at: usize,
-    command: u32,
-    first: u32,
-    second: u32,
-    third: u32,
-)
-    requires { ⌜ at + 16 ≤ length (now output) ⌝ }
-    ensures { λ _. ⌜ now (output .exit) ≡ store (now (output .entry)) at (entry command first second third) ⌝ }
-{
-    words::put::le_word(output, at, command);
-    words::put::le_word(output, at + 4, first);
-    words::put::le_word(output, at + 8, second);
-    words::put::le_word(output, at + 12, third);
-}
 
 // The entry of a piece of the plan, and its data at a place behind it.
 pub(crate) fn write_piece(plan: &[u8], piece: Piece, output: &mut [u8], at: usize, place: usize)
@@ -39,7 +21,7 @@ pub(crate) fn write_piece(plan: &[u8], piece: Piece, output: &mut [u8], at: usiz
             length,
         } => {
             let end = from + length;
-            put_entry(output, at, 2, address, (place - at) as u32, length as u32);
+            words::four::put(output, at, 2, address, (place - at) as u32, length as u32);
             words::put::bytes(output, place, &plan[from..end]);
         }
         Piece::Fill {
@@ -47,10 +29,10 @@ pub(crate) fn write_piece(plan: &[u8], piece: Piece, output: &mut [u8], at: usiz
             length,
             word,
         } => {
-            put_entry(output, at, 3, address, length as u32, word);
+            words::four::put(output, at, 3, address, length as u32, word);
         }
         Piece::Run { address } => {
-            put_entry(output, at, 4, address, 0, 0);
+            words::four::put(output, at, 4, address, 0, 0);
         }
     }
 }

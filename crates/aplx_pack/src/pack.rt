@@ -31,7 +31,7 @@ fn write_image(plan: &[u8], count: u32, output: &mut [u8])
             }
         }
     }
-    crate::entry::put_entry(output, 16 * (count as usize), 0xffffffff, 0, 0, 0);
+    words::four::put(output, 16 * (count as usize), 0xffffffff, 0, 0, 0);
 }
 
 // Packs a plan as an APLX image at the output's front. A refused plan changes no byte of the output.

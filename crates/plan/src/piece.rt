@@ -197,9 +197,6 @@ pub fn piece_at(plan: &[u8], target: Target, index: u32) -> Judged
     ensures { λ r. ⌜ WithinData (now (plan .entry)) r ⌝ }
 {
     let at = le_word_at(plan, 4) as usize + 16 * (index as usize);
-    let kind = le_word_at(plan, at);
-    let address = le_word_at(plan, at + 4);
-    let length = le_word_at(plan, at + 8);
-    let last = le_word_at(plan, at + 12);
-    judge_kind(plan, target, kind, address, length, last)
+    let w = words::four::read(plan, at);
+    judge_kind(plan, target, w.first, w.second, w.third, w.fourth)
 }

@@ -12,7 +12,6 @@ use crate::piece::put_length;
 use memory_map::answer::CUT_SHORT;
 use memory_map::answer::PLAN_MALFORMED;
 use memory_map::answer::Refusal;
-use words::read::le_word_at;
 
 // The number of pieces, the sum of the put lengths and that of the fill lengths; or the refusal.
 pub enum Answer {
@@ -64,7 +63,8 @@ pub fn read(plan: &[u8], target: Target) -> Answer
             place: 0,
         });
     }
-    let count = le_word_at(plan, 0);
+    let header = words::four::read(plan, 0);
+    let count = header.first;
     if count > 64 {
         return Answer::Refused(Refusal {
             number: PLAN_MALFORMED,
@@ -72,13 +72,13 @@ pub fn read(plan: &[u8], target: Target) -> Answer
         });
     }
     let size = plan.len();
-    if size < le_word_at(plan, 4) as usize + 16 * (count as usize) {
+    if size < header.second as usize + 16 * (count as usize) {
         return Answer::Refused(Refusal {
             number: CUT_SHORT,
             place: 0,
         });
     }
-    if size < le_word_at(plan, 8) as usize + le_word_at(plan, 12) as usize {
+    if size < header.third as usize + header.fourth as usize {
         return Answer::Refused(Refusal {
             number: CUT_SHORT,
             place: 0,

@@ -1,6 +1,7 @@
 -- Groups of definitions that computed examples open together: `unfolding NAME` opens all in the line under NAME. Not needed for belief.
 use Rattle.words.specs.Choice.{every}
 use Rattle.words.specs.Bytes.{littleEndian, bigEndian, fromLittleEndian, fromBigEndian, firstBytes, littleEndianAt, bigEndianAt}
+use Rattle.words.specs.Four.{fourBytes}
 use Rattle.words.specs.Swap.{swapWords}
 use Rattle.words.specs.Store.{store}
 use Rattle.words.specs.Repeat.{repeated, filling}
@@ -14,7 +15,7 @@ tests = tt
 
 -- words in bytes, both orders
 unfoldable pub bytes : Unit {0}
-unfolding littleEndian bigEndian fromLittleEndian fromBigEndian firstBytes littleEndianAt bigEndianAt
+unfolding littleEndian bigEndian fromLittleEndian fromBigEndian firstBytes littleEndianAt bigEndianAt fourBytes
 bytes = tt
 
 -- bytes that are stored

@@ -1,21 +1,12 @@
 -- Laws of entries: what stands at the same bytes says the same.
 use mathlib.Core.Path.{_≡_, ap, sym, _∙_}
 use mathlib.Core.List.{List}
-use Prim.Native.Nat.{ℕ, _+_, _-_, _≤_}
-use native.Mathlib.Nat.{add-zero}
+use Prim.Native.Nat.{ℕ, _+_, _≤_}
 use native.Mathlib.Omega.{arith}
-use lib.ListN.{length, take, drop, length-drop}
-use lib.Seq.{take-all}
+use lib.ListN.{take, drop}
 use Rattle.words.specs.Bytes.{littleEndianAt}
-use Rattle.words.specs.Bytes.Laws.{little-at-part, little-at-drop}
+use Rattle.words.specs.Bytes.Laws.{little-at-part}
 use Rattle.aplx_look.specs.Command.{commandAt}
-
--- of all that stands from place p on, the entry at its front
-pub entry-at-rest : (m : List ℕ) (p a : ℕ) → commandAt (take (length m - p) (drop p m)) 0 a ≡ commandAt m p a
-unfolding commandAt
-entry-at-rest m p a =
-    rw (take-all (length m - p) (drop p m) (omega (arith, length-drop p m)))
-    (simp (little-at-drop, add-zero))
 
 -- an entry whose words are the same says the same
 pub same-entry :

@@ -6,24 +6,20 @@ use native.Mathlib.Nat.{add-zero, add-assoc}
 use native.Mathlib.Omega.{arith}
 use lib.ListN.{length, take, drop, length-append, take-append-drop}
 use lib.Seq.{take-at, drop-at, drop-drop, drop-append-le}
-use Rattle.words.specs.Bytes.Laws.{length-littleEndian}
+use Rattle.words.specs.Four.Laws.{length-fourBytes}
 use Rattle.plan.specs.Plan.{Piece, put, fill, run, dataOf, putBytes}
-use Rattle.aplx_pack.specs.Image.{entry, entryOf, entries, datas, aplxImage}
+use Rattle.aplx_pack.specs.Image.{entryOf, entries, datas, aplxImage}
 
 -- ---- lengths
-pub length-entry : (c x y z : ℕ) → length (entry c x y z) ≡ 16
-unfolding entry
-length-entry c x y z = simp (length-append, length-littleEndian)
-
 pub length-entryOf : (p : Piece) (off : ℕ) → length (entryOf p off) ≡ 16
 unfolding entryOf
-length-entryOf (put a d) off = length-entry 2 a off (length d)
-length-entryOf (fill a n w) off = length-entry 3 a n w
-length-entryOf (run a) off = length-entry 4 a 0 0
+length-entryOf (put a d) off = rw length-fourBytes
+length-entryOf (fill a n w) off = rw length-fourBytes
+length-entryOf (run a) off = rw length-fourBytes
 
 pub length-entries : (k : ℕ) (ps : List Piece) → length (entries k ps) ≡ 16 * suc (length ps)
 unfolding entries
-length-entries k [] = length-entry 0xffffffff 0 0 0
+length-entries k [] = length-fourBytes 0xffffffff 0 0 0
 length-entries k (p ∷ ps) = rw (length-append, length-entryOf, length-entries (k + length (dataOf p)) ps) (omega arith)
 
 pub length-datas : (ps : List Piece) → length (datas ps) ≡ putBytes ps

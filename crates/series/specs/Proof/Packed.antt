@@ -9,23 +9,25 @@ use lib.Seq.{drop-at, drop-drop}
 use Rattle.words.specs.Choice.{All}
 use Rattle.words.specs.Bytes.{littleEndian, firstBytes, littleEndianAt}
 use Rattle.words.specs.Bytes.Laws.{little-at-drop, little-at-front}
+use Rattle.words.specs.Four.{fourBytes}
+use Rattle.words.specs.Four.Laws.{length-fourBytes}
 use Rattle.plan.specs.Plan.{Piece, put, fill, run, dataOf}
 use Rattle.plan.specs.Plan.Laws.{Packable}
 use Rattle.plan.specs.Plan.Sums.{bytes-most}
-use Rattle.aplx_pack.specs.Image.{entry, entryOf, entries, datas, aplxImage}
-use Rattle.aplx_pack.specs.Image.Laws.{length-entry, length-entryOf, length-entries, length-aplxImage, tail, tail-step, image-tail, put-data}
+use Rattle.aplx_pack.specs.Image.{entryOf, entries, datas, aplxImage}
+use Rattle.aplx_pack.specs.Image.Laws.{length-entryOf, length-entries, length-aplxImage, tail, tail-step, image-tail, put-data}
 use Rattle.series.specs.Proof.Carries.{EntryAt, Says, Carries}
 
 -- an image in which this stands from offset k on
 module _ (image : List ℕ) (k : ℕ) where
   -- an entry, and more
-  entry-here : (c x y z : ℕ) (rest : List ℕ) → drop k image ≡ entry c x y z ++ rest
+  entry-here : (c x y z : ℕ) (rest : List ℕ) → drop k image ≡ fourBytes c x y z ++ rest
       → c < 4294967296 → x < 4294967296 → y < 4294967296 → z < 4294967296 → EntryAt image k c x y z
-  unfolding entry littleEndian littleEndianAt firstBytes
+  unfolding fourBytes littleEndian littleEndianAt firstBytes
   entry-here c x y z rest e hc hx hy hz =
-      let w : (j : ℕ) → littleEndianAt 4 image (k + j) ≡ littleEndianAt 4 (entry c x y z ++ rest) j = λ j. sym (little-at-drop 4 k j image) ∙ ap (λ (s : List ℕ). littleEndianAt 4 s j) e in
+      let w : (j : ℕ) → littleEndianAt 4 image (k + j) ≡ littleEndianAt 4 (fourBytes c x y z ++ rest) j = λ j. sym (little-at-drop 4 k j image) ∙ ap (λ (s : List ℕ). littleEndianAt 4 s j) e in
       record {
-        whole = omega (arith, length-drop k image, ap length e ∙ length-append (entry c x y z) rest, length-entry c x y z);
+        whole = omega (arith, length-drop k image, ap length e ∙ length-append (fourBytes c x y z) rest, length-fourBytes c x y z);
         command = rw (add-zero k) at (w 0) ∙ little-at-front 4 c [] hc;
         first = w 4 ∙ little-at-front 4 x [] hx;
         second = w 8 ∙ little-at-front 4 y [] hy;

@@ -3,16 +3,16 @@ use mathlib.Core.Path.{refl}
 use mathlib.Core.List.{List, [], _∷_, _++_}
 use Prim.Native.Nat.{ℕ}
 use lib.ListN.{replicate}
+use Rattle.words.specs.Four.{fourBytes}
 use Rattle.words.specs.Open as words-group
 use Rattle.plan.specs.Plan.{Piece, put, fill}
-use Rattle.aplx_pack.specs.Image.{entry}
 use Rattle.aplx_pack.specs.Open as aplx-pack-group
 use Rattle.series.specs.Refuted.Example.{Reads}
 
 -- ---- two fills of 32 bytes
--- header and pieces are four words each, as the entries of APLX are
+-- header and pieces are four words each
 unfoldable pub twoFills : ℕ → ℕ → List ℕ
-twoFills a b = entry 2 16 48 0 ++ (entry 2 a 32 1 ++ entry 2 b 32 2)
+twoFills a b = fourBytes 2 16 48 0 ++ (fourBytes 2 a 32 1 ++ fourBytes 2 b 32 2)
 
 abbrev pub two-pieces : ℕ → ℕ → List Piece
 two-pieces a b = fill a 32 1 ∷ fill b 32 2 ∷ []
@@ -34,7 +34,7 @@ reads-over = record { bytes = refl; read = refl }
 
 -- ---- a fill of 32 bytes, and a put of n bytes over its first ones
 unfoldable pub fillAndPut : ℕ → List ℕ
-fillAndPut n = entry 2 16 48 n ++ (entry 2 8192 32 0x01010101 ++ (entry 1 8192 n 0 ++ replicate n 5))
+fillAndPut n = fourBytes 2 16 48 n ++ (fourBytes 2 8192 32 0x01010101 ++ (fourBytes 1 8192 n 0 ++ replicate n 5))
 
 abbrev pub fill-and-put : ℕ → List Piece
 fill-and-put n = fill 8192 32 0x01010101 ∷ put 8192 (replicate n 5) ∷ []

@@ -21,6 +21,10 @@ length-fourBytes a b c d =
     let l = littleEndian 4 d in
     length-append i (j ++ (k ++ l)) ∙ omega (arith, length-append j (k ++ l), length-append k l, length-littleEndian 4 a, length-littleEndian 4 b, length-littleEndian 4 c, length-littleEndian 4 d)
 
+-- where they fit
+pub four-fits : (m : List ℕ) (p a b c d : ℕ) → p + 16 ≤ length m → storeIfFits m p (fourBytes a b c d) ≡ store m p (fourBytes a b c d)
+four-fits m p a b c d h = store-fits m p (fourBytes a b c d) (omega (arith, length-fourBytes a b c d))
+
 -- one word put behind the other
 pub four-put : (m : List ℕ) (p a b c d : ℕ) (r s t u : List ℕ) → p + 16 ≤ length m
     → r ≡ storeIfFits m p (littleEndian 4 a) → s ≡ storeIfFits r (p + 4) (littleEndian 4 b)

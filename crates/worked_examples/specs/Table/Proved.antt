@@ -7,6 +7,7 @@ use native.Mathlib.Omega.{arith}
 use lib.ListN.{length, replicate}
 use lib.Seq.{take-all}
 use Rattle.words.specs.Bytes.{fromLittleEndian}
+use Rattle.words.specs.Four.{fourBytes}
 use Rattle.words.specs.Open as words-group
 use Rattle.memory_map.specs.declared.region.Right.the-variants.{Read}
 use Rattle.memory_map.specs.declared.map.Map.{Map}
@@ -28,7 +29,7 @@ use Rattle.plan.specs.Plan.{put, run, pieces, readPlan}
 use Rattle.plan.specs.Packed.{packs, packedAs}
 use Rattle.srom_pack.specs.Image.{packSrom}
 use Rattle.srom_pack.specs.Open as srom-pack-group
-use Rattle.aplx_pack.specs.Image.{entry, aplxImage, packAplx}
+use Rattle.aplx_pack.specs.Image.{aplxImage, packAplx}
 use Rattle.aplx_pack.specs.Open as aplx-pack-group
 use Rattle.worked_examples.specs.Setting.{words, mapOf, bytesFound, bytesAt, systemRam, holding, sliceLoaded, dump, putPlan, wordPlan, imageOf, around, entryLoaded, acopyEntry, rcopyEntry, fillEntry, readPacketOf}
 use Rattle.worked_examples.specs.Table.{Table}
@@ -84,7 +85,7 @@ module _ (d : List ℕ) (e : length d ≡ 32) where
   unfolding words aplx-pack-group.image
   put-reads = simp (e, take-all 32 d (omega arith))
 
-  put-packs : packAplx (putPlan d) 65536 ≡ packs (entry 2 0 48 32 ++ (entry 4 0 0 0 ++ (entry 0xffffffff 0 0 0 ++ d)))
+  put-packs : packAplx (putPlan d) 65536 ≡ packs (fourBytes 2 0 48 32 ++ (fourBytes 4 0 0 0 ++ (fourBytes 0xffffffff 0 0 0 ++ d)))
   unfolding words aplx-pack-group.image
   put-packs = ap (λ r. packedAs aplxImage r 65536) put-reads ∙ simp (append-nil d, e)
 

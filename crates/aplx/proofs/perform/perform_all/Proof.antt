@@ -1,13 +1,12 @@
 -- `aplx::perform::perform_all` meets its contract: the loop's invariant: the rest of the commands, carried out on memory as it now is, leave what all leave, and the rest of the entries are untouched.
 use mathlib.Core.Path.{_≡_, ap, _∙_}
-use Prim.Native.Nat.{_+_, _-_, _≤_}
+use Prim.Native.Nat.{_-_}
 use native.Mathlib.Omega.{arith}
 use lib.ListN.{length}
 use borrow.Author.Needs.{needs}
 use Rattle.memory_map.specs.declared.region.Right.the-variants.{Read}
 use Rattle.memory_map.specs.Lookup.{lookup}
 use Rattle.memory_map.specs.Lookup.Laws.{lawful}
-use Rattle.aplx_look.specs.Command.Laws.{entry-at-rest}
 use Rattle.aplx_look.specs.Walk.{placeOf}
 use Rattle.aplx_look.specs.Code.{commandIs}
 use Rattle.aplx.proofs.Storing.{entryAt, Progress, start, finished, Next, next}
@@ -35,17 +34,11 @@ placed : (c : tie.After-place Inv-loop μ-loop)
     c .place .result ≡ placeOf (lookup (l .before .before .args .map) Read (l .loop .address) 16)
 placed c = c .place .ensures ∙ ap placeOf (c .before .lookup .ensures)
 
--- its bytes lie in memory
-inside : (c : tie.After-place Inv-loop μ-loop) → c .place .result + 16 ≤ length (c .before .before .before .loop .memory)
-inside c = rw (placed c) (there (c .before .before) .inside)
-
 -- its command
-commanded : (c : tie.After-command-in Inv-loop μ-loop)
-    → let l = c .before .before .before .before .before .before in
-    commandIs (c .command-in .result) ≡ entryAt (lookup (l .before .before .args .map)) (l .loop .memory) (l .loop .address)
-commanded c =
-    let l = c .before .before .before .before .before .before .loop in
-    rw (placed (c .before .before .before)) at (c .command-in .ensures ∙ entry-at-rest (l .memory) _ (l .address))
+commanded : (c : tie.After-command-at Inv-loop μ-loop)
+    → let l = c .before .before .before .before .before in
+    commandIs (c .command-at .result) ≡ entryAt (lookup (l .before .before .args .map)) (l .loop .memory) (l .loop .address)
+commanded c = rw (placed (c .before .before)) at (c .command-at .ensures)
 
 loop-holds : tie.Need-loop-holds Inv-loop μ-loop
 loop-holds c = start _ _ _ _
@@ -56,25 +49,16 @@ lookup-requires c κs = search needs
 place-requires : tie.Need-place-requires Inv-loop μ-loop
 place-requires c κs = search needs
 
-sub-command-in : tie.Need-sub-command-in Inv-loop μ-loop
-sub-command-in c = omega (arith, inside c)
-
-part-command-in-start : tie.Need-part-command-in-start Inv-loop μ-loop
-part-command-in-start c = omega (arith, inside (c .before))
-
-part-command-in-end : tie.Need-part-command-in-end Inv-loop μ-loop
-part-command-in-end c = search needs
-
-command-in-requires : tie.Need-command-in-requires Inv-loop μ-loop
-command-in-requires c κs = search needs
+command-at-requires : tie.Need-command-at-requires Inv-loop μ-loop
+command-at-requires c κs = search needs
 
 perform-command-requires : tie.Need-perform-command-requires Inv-loop μ-loop
 perform-command-requires c κs =
-    let t = c .before .before .before .before .before .before in
+    let t = c .before .before .before .before .before in
     (rw (t .before .loop .inv .size) (t .before .before .before .pre .0), rw (commanded (c .before)) (there t .performable))
 
 add-address : tie.Need-add-address Inv-loop μ-loop
-add-address c = omega (arith, there (c .before .before .before .before .before .before .before .before .before) .below)
+add-address c = omega (arith, there (c .before .before .before .before .before .before .before .before) .below)
 
 add-i : tie.Need-add-i Inv-loop μ-loop
 add-i c = omega arith
@@ -85,7 +69,7 @@ loop-less c = omega arith
 loop-again : tie.Need-loop-again Inv-loop μ-loop
 loop-again c =
     let d = c .before .before .before .before in
-    rw (c .before .before .perform-command .ensures, commanded d) (there (d .before .before .before .before .before) .progress)
+    rw (c .before .before .perform-command .ensures, commanded d) (there (d .before .before .before .before) .progress)
 
 same-length : tie.Need-same-length Inv-loop μ-loop
 same-length c = c .before .loop .inv .size
@@ -102,10 +86,7 @@ perform-all-spec =
     loop-holds
     lookup-requires
     place-requires
-    sub-command-in
-    part-command-in-start
-    part-command-in-end
-    command-in-requires
+    command-at-requires
     perform-command-requires
     add-address
     add-i

@@ -12,7 +12,6 @@ use Rattle.memory_map.specs.Outcome.{Ending}
 use Rattle.memory_map.specs.Lookup.{lookup}
 use Rattle.memory_map.specs.Lookup.Laws.{lawful}
 use Rattle.aplx_look.specs.Command.{Command, commandAt}
-use Rattle.aplx_look.specs.Command.Laws.{entry-at-rest}
 use Rattle.aplx_look.specs.Walk.{placeOf, commands}
 use Rattle.aplx_look.specs.Walk.Laws.{Entry, goes-found, found-place}
 use Rattle.aplx_look.specs.Look.{meetsHeader, headerTest, bytesOf, bytesIn}
@@ -45,41 +44,31 @@ entry c =
 placed : (c : tie.After-place Inv-loop μ-loop) → let x = c .before .before .before .before .before .args in c .place .result ≡ placeOf (lookup (x .map) Read (c .before .before .before .loop .address) 16)
 placed c = c .place .ensures ∙ ap placeOf (c .before .lookup .ensures)
 
--- its bytes lie in memory
-inside : (c : tie.After-place Inv-loop μ-loop) → c .place .result + 16 ≤ length (c .before .before .before .before .before .args .memory .now)
-inside c =
-    let s = c .before .before .before .before .before in
-    let e = entry (c .before .before) in
-    rw (placed c, found-place (e .found-there)) (lawful (s .args .map) (length (s .args .memory .now)) (s .pre .0) .inside Read (c .before .before .before .loop .address) 16 (e .place) (e .found-there))
-
 -- its command
 abbrev commandThere : Map → List ℕ → ℕ → Command
 commandThere map m a = commandAt m (placeOf (lookup map Read a 16)) a
 
-command : (c : tie.After-command-in Inv-loop μ-loop)
-    → let x = c .before .before .before .before .before .before .before .args in
-    commandIs (c .command-in .result) ≡ commandThere (x .map) (x .memory .now) (c .before .before .before .before .before .loop .address)
-command c =
-    let x = c .before .before .before .before .before .before .before .args in
-    let a = c .before .before .before .before .before .loop .address in
-    c .command-in .ensures ∙ entry-at-rest (x .memory .now) _ a ∙ ap (λ (p : ℕ). commandAt (x .memory .now) p a) (placed (c .before .before))
+command : (c : tie.After-command-at Inv-loop μ-loop)
+    → let x = c .before .before .before .before .before .before .args in
+    commandIs (c .command-at .result) ≡ commandThere (x .map) (x .memory .now) (c .before .before .before .before .loop .address)
+command c = rw (placed (c .before)) at (c .command-at .ensures)
 
 -- whether its destination meets the entries
 met : (c : tie.After-meets-header Inv-loop μ-loop)
-    → let x = c .before .before .before .before .before .before .before .before .args in
-    meetsHeader (x .header) (16 * (x .count + 1)) (commandThere (x .map) (x .memory .now) (c .before .before .before .before .before .before .loop .address)) ≡ c .meets-header .result
+    → let x = c .before .before .before .before .before .before .before .args in
+    meetsHeader (x .header) (16 * (x .count + 1)) (commandThere (x .map) (x .memory .now) (c .before .before .before .before .before .loop .address)) ≡ c .meets-header .result
 met c = rw (← command (c .before)) (sym (c .meets-header .ensures))
 
 -- its bytes, counted
 bytes : (c : tie.After-bytes-of Inv-loop μ-loop)
-    → let x = c .before .before .before .before .before .before .before .before .before .before .args in
-    c .bytes-of .result ≡ bytesOf (commandThere (x .map) (x .memory .now) (c .before .before .before .before .before .before .before .before .loop .address))
+    → let x = c .before .before .before .before .before .before .before .before .before .args in
+    c .bytes-of .result ≡ bytesOf (commandThere (x .map) (x .memory .now) (c .before .before .before .before .before .before .before .loop .address))
 bytes c = c .bytes-of .ensures ∙ ap bytesOf (command (c .before .before .before))
 
 -- they fit the address space, as does the entry
-few : (c : tie.After-bytes-of Inv-loop μ-loop) → (c .bytes-of .result ≤ 4294967280) × (c .before .before .before .before .before .before .before .before .loop .address + 16 ≤ 4294967280)
+few : (c : tie.After-bytes-of Inv-loop μ-loop) → (c .bytes-of .result ≤ 4294967280) × (c .before .before .before .before .before .before .before .loop .address + 16 ≤ 4294967280)
 few c =
-    let d = c .before .before .before .before .before .before .before in
+    let d = c .before .before .before .before .before .before in
     let s = d .before .before .before in
     let x = s .args in
     let a = d .before .loop .address in
@@ -107,25 +96,16 @@ lookup-requires c κs = search needs
 place-requires : tie.Need-place-requires Inv-loop μ-loop
 place-requires c κs = search needs
 
-sub-command-in : tie.Need-sub-command-in Inv-loop μ-loop
-sub-command-in c = omega (arith, inside c)
-
-part-command-in-start : tie.Need-part-command-in-start Inv-loop μ-loop
-part-command-in-start c = omega (arith, inside c)
-
-part-command-in-end : tie.Need-part-command-in-end Inv-loop μ-loop
-part-command-in-end c = search needs
-
-command-in-requires : tie.Need-command-in-requires Inv-loop μ-loop
-command-in-requires c κs = search needs
+command-at-requires : tie.Need-command-at-requires Inv-loop μ-loop
+command-at-requires c κs = search needs
 
 meets-header-requires : tie.Need-meets-header-requires Inv-loop μ-loop
 meets-header-requires c κs = search needs
 
 returns : tie.Need-returns Inv-loop μ-loop
 returns c = let d = c .before in
-    let l = d .before .before .before .before .before .before .loop in
-    let x = d .before .before .before .before .before .before .before .before .args in
+    let l = d .before .before .before .before .before .loop in
+    let x = d .before .before .before .before .before .before .before .args in
     let e = met d ∙ c .if1 .taken in
     (λ (y : Ending). sym (l .inv .4 y) ∙ header-met (lookup (x .map)) (x .memory .now) (l .address) (x .count) (l .i) (x .header) (16 * (x .count + 1)) y (omega arith) e, tt)
 
@@ -146,8 +126,8 @@ loop-less c = omega arith
 
 loop-again : tie.Need-loop-again Inv-loop μ-loop
 loop-again c = let d = c .before .before in
-    let l = d .before .before .before .before .before .before .loop in
-    let x = d .before .before .before .before .before .before .before .before .args in
+    let l = d .before .before .before .before .before .loop in
+    let x = d .before .before .before .before .before .before .before .args in
     let h = few c in
     let b = bytes-on (lookup (x .map)) (x .memory .now) (l .address) (x .count) (l .i) (omega arith) in
     let k = bytes c in
@@ -178,10 +158,7 @@ check-header-spec =
     loop-holds
     lookup-requires
     place-requires
-    sub-command-in
-    part-command-in-start
-    part-command-in-end
-    command-in-requires
+    command-at-requires
     meets-header-requires
     returns
     bytes-of-requires

@@ -1,10 +1,8 @@
--- `aplx_look::judge::judge_entry` meets its contract: a found entry lies in memory, and its address plus 16 does not wrap.
+-- `aplx_look::judge::judge_entry` meets its contract: the address of a found entry plus 16 does not wrap.
 use borrow.Author.Needs.{needs}
 use mathlib.Core.Path.{_≡_, ap, sym, _∙_}
-use Prim.Native.Nat.{_+_, _≤_}
 use native.Mathlib.Omega.{arith}
 use lib.ListN.{length}
-use Rattle.aplx_look.specs.Command.Laws.{entry-at-rest}
 use Rattle.aplx_look.specs.Walk.{judge}
 use Rattle.memory_map.specs.Lookup.Laws.{lawful}
 use Rattle.memory_map.specs.Lookup.{at, lookup, foundOf}
@@ -16,33 +14,18 @@ use Rattle.aplx_look.proofs.judge.judge_entry.Tie as tie
 there : (c : tie.After-known-told) → let x = c .before .before .before .before .before .args in lookup (x .map) Read (x .address) 16 ≡ at (c .before .place .given .0 .0)
 there c = sym (c .before .before .before .lookup .ensures) ∙ ap foundOf (c .before .place .given .1)
 
--- they lie in memory
-inside : (c : tie.After-known-told) → c .before .place .given .0 .0 + 16 ≤ length (c .before .before .before .before .before .args .memory .now)
-inside c =
-    let s = c .before .before .before .before .before in
-    lawful (s .args .map) (length (s .args .memory .now)) (s .pre) .inside Read (s .args .address) 16 _ (there c)
-
 lookup-requires : tie.Need-lookup-requires
 lookup-requires c κs = search needs
 
 enum-known-place : tie.Need-enum-known-place
 enum-known-place c = search needs
 
-sub-command-in : tie.Need-sub-command-in
-sub-command-in c = omega (arith, inside c)
-
-part-command-in-start : tie.Need-part-command-in-start
-part-command-in-start c = omega (arith, inside c)
-
-part-command-in-end : tie.Need-part-command-in-end
-part-command-in-end c = search needs
-
-command-in-requires : tie.Need-command-in-requires
-command-in-requires c κs = search needs
+command-at-requires : tie.Need-command-at-requires
+command-at-requires c κs = search needs
 
 judge-command-requires : tie.Need-judge-command-requires
 judge-command-requires c κs =
-    let d = c .before .before in
+    let d = c .before in
     let s = d .before .before .before .before .before in
     let h = lawful (s .args .map) (length (s .args .memory .now)) (s .pre) .below Read (s .args .address) 16 _ (there d) in
     omega arith
@@ -53,10 +36,7 @@ enum-told c = search needs
 returns : tie.Need-returns
 unfolding judge
 returns c =
-    let d = c .before .before .before in
-    let x = d .before .before .before .before .before .args in
-    let e = c .before .command-in .ensures ∙ entry-at-rest (x .memory .now) _ (x .address) in
-    rw (there d) (rw (← e) (c .judge-command .ensures))
+    rw (there (c .before .before)) (rw (← c .before .command-at .ensures) (c .judge-command .ensures))
 
 returns-2 : tie.Need-returns-2
 unfolding judge
@@ -68,10 +48,7 @@ judge-entry-spec =
     (tie.spec
     lookup-requires
     enum-known-place
-    sub-command-in
-    part-command-in-start
-    part-command-in-end
-    command-in-requires
+    command-at-requires
     judge-command-requires
     enum-told
     returns

@@ -1,8 +1,9 @@
 -- `aplx_pack::entry::write_piece` meets its contract: each arm writes the entry of its kind of piece, and a put its data.
-use mathlib.Core.Path.{_≡_, _∙_}
+use mathlib.Core.Path.{_≡_}
 use Prim.Native.Nat.{_+_, _-_, _≤_}
 use native.Mathlib.Omega.{arith}
 use lib.ListN.{length, take, drop}
+use Rattle.words.specs.Four.Laws.{four-fits}
 use Rattle.words.specs.Store.Laws.{store-nil}
 use Rattle.plan.specs.declared.piece.Piece.the-variants.{Put, Fill}
 use Rattle.plan.specs.Code.Packer.{Writable}
@@ -32,17 +33,17 @@ enum-known-piece c = search needs
 add-end : tie.Need-add-end
 add-end c = omega (arith, put-fits c)
 
-sub-put-entry : tie.Need-sub-put-entry
-sub-put-entry c = search needs
+sub-put : tie.Need-sub-put
+sub-put c = search needs
 
-cast-put-entry : tie.Need-cast-put-entry
-cast-put-entry c = search needs
+cast-put : tie.Need-cast-put
+cast-put c = search needs
 
-cast-put-entry-2 : tie.Need-cast-put-entry-2
-cast-put-entry-2 c = omega (arith, put-fits (c .before))
+cast-put-2 : tie.Need-cast-put-2
+cast-put-2 c = omega (arith, put-fits (c .before))
 
-put-entry-requires : tie.Need-put-entry-requires
-put-entry-requires c κs = search needs
+put-requires : tie.Need-put-requires
+put-requires c κs = search needs
 
 sub-bytes : tie.Need-sub-bytes
 sub-bytes c = search needs
@@ -59,17 +60,17 @@ bytes-requires c κs = search needs
 enum-known-piece-2 : tie.Need-enum-known-piece-2
 enum-known-piece-2 c = search needs
 
-cast-put-entry-3 : tie.Need-cast-put-entry-3
-cast-put-entry-3 c = omega (arith, fill-fits (c .before))
+cast-put-3 : tie.Need-cast-put-3
+cast-put-3 c = omega (arith, fill-fits (c .before))
 
-put-entry-requires-2 : tie.Need-put-entry-requires-2
-put-entry-requires-2 c κs = search needs
+put-requires-2 : tie.Need-put-requires-2
+put-requires-2 c κs = search needs
 
 enum-known-piece-3 : tie.Need-enum-known-piece-3
 enum-known-piece-3 c = search needs
 
-put-entry-requires-3 : tie.Need-put-entry-requires-3
-put-entry-requires-3 c κs = search needs
+put-requires-3 : tie.Need-put-requires-3
+put-requires-3 c κs = search needs
 
 same-length : tie.Need-same-length
 same-length c = search needs
@@ -86,21 +87,29 @@ returns c =
     let l : length bytes ≡ g .1 .1 .0 = data-length (x .plan .now) (g .1 .0) (g .1 .1 .0) (h .0 .0) in
     rw (d .before .piece .given .1)
     (piece-put (x .output .now) _ _ (x .at) (x .place) (g .0) bytes (omega arith) (omega arith)
-    (rw l (c .before .before .before .before .before .before .before .put-entry .ensures)) (rw e at (c .before .before .bytes .ensures)))
+    (rw l (c .before .before .before .before .before .before .before .put .ensures)) (rw e at (c .before .before .bytes .ensures)))
 
 same-length-2 : tie.Need-same-length-2
 same-length-2 c = search needs
 
 returns-2 : tie.Need-returns-2
 unfolding entryOf
-returns-2 c = c .before .before .put-entry2 .ensures ∙ simp (c .before .before .before .before .before .piece2 .given .1, store-nil)
+returns-2 c =
+    let d = c .before .before .before .before .before in
+    let x = d .before .before .before .before .args in
+    let h : x .at + 16 ≤ length (x .output .now) = omega arith in
+    simp (c .before .before .put2 .ensures, four-fits, d .piece2 .given .1, store-nil)
 
 same-length-3 : tie.Need-same-length-3
 same-length-3 c = search needs
 
 returns-3 : tie.Need-returns-3
 unfolding entryOf
-returns-3 c = c .before .before .put-entry3 .ensures ∙ simp (c .before .before .before .before .before .piece3 .given .1, store-nil)
+returns-3 c =
+    let d = c .before .before .before .before .before in
+    let x = d .before .before .before .before .args in
+    let h : x .at + 16 ≤ length (x .output .now) = omega arith in
+    simp (c .before .before .put3 .ensures, four-fits, d .piece3 .given .1, store-nil)
 
 pub write-piece-spec : {M : Type 1} → statement M
 write-piece-spec =
@@ -108,19 +117,19 @@ write-piece-spec =
     (tie.spec
     enum-known-piece
     add-end
-    sub-put-entry
-    cast-put-entry
-    cast-put-entry-2
-    put-entry-requires
+    sub-put
+    cast-put
+    cast-put-2
+    put-requires
     sub-bytes
     part-bytes-start
     part-bytes-end
     bytes-requires
     enum-known-piece-2
-    cast-put-entry-3
-    put-entry-requires-2
+    cast-put-3
+    put-requires-2
     enum-known-piece-3
-    put-entry-requires-3
+    put-requires-3
     same-length
     returns
     same-length-2

@@ -6,6 +6,7 @@ use borrow.Author.Needs.{needs}
 use lib.ListN.{length}
 use Rattle.words.specs.Choice.Laws.{all-elements}
 use Rattle.words.specs.Bytes.{Bytes}
+use Rattle.words.specs.Four.Laws.{four-fits}
 use Rattle.plan.specs.Packed.{planPieces}
 use Rattle.plan.specs.Code.{pieceIs}
 use Rattle.plan.specs.Code.Laws.{not-bad, found}
@@ -103,17 +104,15 @@ returns c =
     let start = k .before .before .before in
     not-bad 32 (start .args .plan .now) (start .pre .0) (k .loop .i) (omega arith) (r .result) (r .ensures .0) (c .enum-told .given .1)
 
-mul-put-entry : tie.Need-mul-put-entry Inv-loop μ-loop
-mul-put-entry c = omega arith
+mul-put : tie.Need-mul-put Inv-loop μ-loop
+mul-put c = omega arith
 
-put-entry-requires : tie.Need-put-entry-requires Inv-loop μ-loop
-put-entry-requires c κs =
-    let k = c .before .before in
-    omega (arith, data-inside (planPieces 32 (k .before .before .before .args .plan .now)) 0)
+put-requires : tie.Need-put-requires Inv-loop μ-loop
+put-requires c κs = search needs
 
 same-length-2 : tie.Need-same-length-2 Inv-loop μ-loop
 same-length-2 c =
-    c .before .before .put-entry .kept .0 ∙ c .before .before .before .before .before .loop .inv .1 .1 .1 .0
+    c .before .before .put .kept .0 ∙ c .before .before .before .before .before .loop .inv .1 .1 .1 .0
 
 returns-2 : tie.Need-returns-2 Inv-loop μ-loop
 returns-2 c =
@@ -122,7 +121,8 @@ returns-2 c =
     let x = start .args in
     let ps = planPieces 32 (x .plan .now) in
     let e : k .loop .i ≡ length ps = omega arith in
-    rw (c .before .before .put-entry .ensures, start .pre .1) (written-all ps (x .output .now) (start .pre .3) (k .loop .output) (rw e at (k .loop .inv .0)))
+    let h : 16 * x .count + 16 ≤ length (k .loop .output) = omega (arith, data-inside ps 0) in
+    rw (c .before .before .put .ensures, four-fits, start .pre .1) (written-all ps (x .output .now) (start .pre .3) (k .loop .output) (rw e at (k .loop .inv .0)))
 
 pub write-image-spec : {M : Type 1} → statement M
 write-image-spec =
@@ -146,7 +146,7 @@ write-image-spec =
     enum-told
     same-length
     returns
-    mul-put-entry
-    put-entry-requires
+    mul-put
+    put-requires
     same-length-2
     returns-2)

@@ -5,9 +5,9 @@ use Prim.Native.Nat.{_+_, _≤_}
 use native.Mathlib.Omega.{arith}
 use borrow.Author.Tests.{leb-true, leb-false}
 use lib.ListN.{length}
-use Rattle.words.specs.Store.Laws.{store-fits, store-unfit}
+use Rattle.words.specs.Store.Laws.{store-unfit}
 use Rattle.words.specs.Four.{fourBytes}
-use Rattle.words.specs.Four.Laws.{length-fourBytes, four-put}
+use Rattle.words.specs.Four.Laws.{length-fourBytes, four-fits, four-put}
 use Rattle.words.proofs.four.put.Statement.{statement}
 use Rattle.words.proofs.four.put.Tie as tie
 
@@ -52,7 +52,7 @@ returns c =
     let x = d .before .before .before .args in
     four-put (x .s .now) (x .at) (x .first) (x .second) (x .third) (x .fourth) _ _ _ _ (inside d) (first .le-word .ensures)
     (second .le-word2 .ensures) (third .le-word3 .ensures) (fourth .le-word4 .ensures)
-    ∙ sym (store-fits (x .s .now) (x .at) (fourBytes (x .first) (x .second) (x .third) (x .fourth)) (omega (arith, inside d, length-fourBytes (x .first) (x .second) (x .third) (x .fourth))))
+    ∙ sym (four-fits (x .s .now) (x .at) (x .first) (x .second) (x .third) (x .fourth) (inside d))
 
 returns-2 : tie.Need-returns-2
 returns-2 c =
