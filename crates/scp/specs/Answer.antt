@@ -1,6 +1,6 @@
 -- What a packet is answered (paper 01, "SCP").
 pub mod Laws
-use mathlib.Core.Bool.{Bool, not, _&&_, _||_}
+use mathlib.Core.Bool.{Bool, true, false, not, _&&_, _||_}
 use mathlib.Core.List.{List, [], _++_}
 use Prim.Native.Nat.{ℕ, _+_}
 use lib.Dec.{ltb, eqb}
@@ -72,44 +72,54 @@ loadPacket map s m =
     if ltb (length s) 8 then coded LEN s m
     else loadedReaction (aplxLoad map m (arg1 s)) s
 
--- ---- READ and WRITE: "under .. 16 bytes, LEN"; "arg2 over 256 or arg3 over 2, ARG"; "address or length not a multiple of 1, 2 or 4 by type, ARG"
+-- ---- READ and WRITE
 abbrev pub tooLarge : List ℕ → Bool
 tooLarge s = ltb 256 (arg2 s) || ltb 2 (arg3 s)
+
+abbrev pub otherLength : List ℕ → Bool
+otherLength s = not (eqb (length s) (16 + arg2 s))
 
 abbrev pub misaligned : List ℕ → Bool
 misaligned s = not (aligned (arg3 s) (arg1 s) && aligned (arg3 s) (arg2 s))
 
--- "READ answers 4 + arg2 bytes, data at offset 4, in memory order for all types."
+-- what the tests of such a packet come to: a return code, or its range is transferred
+pub data Transfer : Type 0 where
+  codes : ℕ → Transfer
+  moves : Transfer
+
+-- "under .. 16 (READ, WRITE) bytes, LEN. READ and WRITE: arg2 over 256 or arg3 over 2, ARG; WRITE whose packet is not 16 + arg2 bytes, LEN;
+-- address or length not a multiple of 1, 2 or 4 by type, ARG". "Length 0 touches nothing and is answered OK once aligned, at any address."
+unfoldable pub transfer : Bool → List ℕ → Transfer
+transfer write s =
+    if ltb (length s) 16 then codes LEN
+    else if tooLarge s then codes ARG
+    else if write && otherLength s then codes LEN
+    else if misaligned s then codes ARG
+    else if eqb (arg2 s) 0 then codes OK
+    else moves
+
+-- "READ answers 4 + arg2 bytes, data at offset 4, in memory order for all types."; "non-empty range not permitted, ARG"
 abbrev pub readReaction : Found → List ℕ → List ℕ → Reaction
 readReaction (map.at p) s m = respond (header OK s ++ take (arg2 s) (drop p m)) m
 readReaction (map.refused x) s m = coded ARG s m
 
--- "Length 0 touches nothing and is answered OK once aligned, at any address."
+abbrev pub readAs : Transfer → Lookup → List ℕ → List ℕ → Reaction
+readAs (codes c) find s m = coded c s m
+readAs moves find s m = readReaction (find Read (arg1 s) (arg2 s)) s m
+
 unfoldable pub readPacket : Lookup → List ℕ → List ℕ → Reaction
-readPacket find s m =
-    if ltb (length s) 16 then coded LEN s m
-    else if tooLarge s then coded ARG s m
-    else if misaligned s then coded ARG s m
-    else if eqb (arg2 s) 0 then coded OK s m
-    else readReaction (find Read (arg1 s) (arg2 s)) s m
+readPacket find s m = readAs (transfer false s) find s m
 
 abbrev pub writeReaction : Found → List ℕ → List ℕ → Reaction
 writeReaction (map.at p) s m = coded OK s (store m p (dataOf s))
 writeReaction (map.refused x) s m = coded ARG s m
 
-unfoldable pub writeWhole : Lookup → List ℕ → List ℕ → Reaction
-writeWhole find s m =
-    if misaligned s then coded ARG s m
-    else if eqb (arg2 s) 0 then coded OK s m
-    else writeReaction (find Write (arg1 s) (arg2 s)) s m
+abbrev pub writeAs : Transfer → Lookup → List ℕ → List ℕ → Reaction
+writeAs (codes c) find s m = coded c s m
+writeAs moves find s m = writeReaction (find Write (arg1 s) (arg2 s)) s m
 
--- "WRITE whose packet is not 16 + arg2 bytes, LEN"
 unfoldable pub writePacket : Lookup → List ℕ → List ℕ → Reaction
-writePacket find s m =
-    if ltb (length s) 16 then coded LEN s m
-    else if tooLarge s then coded ARG s m
-    else if not (eqb (length s) (16 + arg2 s)) then coded LEN s m
-    else writeWhole find s m
+writePacket find s m = writeAs (transfer true s) find s m
 
 -- ---- the packet
 -- "VER 0 and RUN 1 stand in the note; READ 2, WRITE 3, APLX 4"; "unknown command, CMD"

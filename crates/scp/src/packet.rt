@@ -1,9 +1,11 @@
 // The numbers of a packet.
 ghost use mathlib.Core.Path.{_≡_};
+ghost use mathlib.Core.Bool.{_&&_};
 ghost use Prim.Native.Nat.{_+_, _≤_};
 ghost use lib.ListN.{length};
 ghost use Rattle.scp.specs.Packet.{aligned};
-ghost use Rattle.scp.specs.Answer.{tooLarge, misaligned};
+ghost use Rattle.scp.specs.Answer.{tooLarge, otherLength, misaligned, transfer};
+ghost use Rattle.scp.specs.Code.{transferIs};
 use words::read::le_word_at;
 
 // Whether a number is a multiple of 1, 2 or 4 by type.
@@ -20,7 +22,7 @@ fn is_aligned(kind: u32, n: u32) -> bool
 }
 
 // Whether the length or the type is over its limit.
-pub(crate) fn is_too_large(packet: &[u8]) -> bool
+fn is_too_large(packet: &[u8]) -> bool
     requires { ⌜ 16 ≤ length (now packet) ⌝ }
     ensures { λ r. ⌜ r ≡ tooLarge (now (packet .entry)) ⌝ }
 {
@@ -31,7 +33,7 @@ pub(crate) fn is_too_large(packet: &[u8]) -> bool
 }
 
 // Whether the address or the length is no multiple by type.
-pub(crate) fn is_misaligned(packet: &[u8]) -> bool
+fn is_misaligned(packet: &[u8]) -> bool
     requires { ⌜ 16 ≤ length (now packet) ⌝ }
     ensures { λ r. ⌜ r ≡ misaligned (now (packet .entry)) ⌝ }
 {
@@ -42,4 +44,42 @@ pub(crate) fn is_misaligned(packet: &[u8]) -> bool
         }
     }
     true
+}
+
+// Whether it is a WRITE whose data has another length than it says.
+fn is_other_length(packet: &[u8], write: bool) -> bool
+    requires { ⌜ 16 ≤ length (now packet) ⌝ }
+    ensures { λ r. ⌜ r ≡ (write && otherLength (now (packet .entry))) ⌝ }
+{
+    if write {
+        return packet.len() != 16 + le_word_at(packet, 8) as usize;
+    }
+    false
+}
+
+// What the tests of a READ or WRITE packet come to: a return code, or its range is transferred.
+pub(crate) enum Transfer {
+    Codes(u16),
+    Moves,
+}
+
+pub(crate) fn judge(packet: &[u8], write: bool) -> Transfer
+    ensures { λ r. ⌜ transferIs r ≡ transfer write (now (packet .entry)) ⌝ }
+{
+    if packet.len() < 16 {
+        return Transfer::Codes(0x81);
+    }
+    if is_too_large(packet) {
+        return Transfer::Codes(0x84);
+    }
+    if is_other_length(packet, write) {
+        return Transfer::Codes(0x81);
+    }
+    if is_misaligned(packet) {
+        return Transfer::Codes(0x84);
+    }
+    if le_word_at(packet, 8) == 0 {
+        return Transfer::Codes(0x80);
+    }
+    Transfer::Moves
 }

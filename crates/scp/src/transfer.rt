@@ -7,11 +7,10 @@ ghost use Rattle.memory_map.specs.declared.region.Right.the-variants as right;
 ghost use Rattle.memory_map.specs.Map.{sound};
 ghost use Rattle.memory_map.specs.Lookup.{lookup};
 ghost use Rattle.scp.specs.Packet.{arg1, arg2};
-ghost use Rattle.scp.specs.Answer.{readReaction, readPacket, writeReaction, writeWhole, writePacket, answered};
+ghost use Rattle.scp.specs.Answer.{readReaction, readPacket, writeReaction, writePacket, answered};
 ghost use Rattle.scp.specs.Code.{replyOf};
 use crate::answer::Reply;
-use crate::packet::is_misaligned;
-use crate::packet::is_too_large;
+use crate::packet::Transfer;
 use memory_map::map::Found;
 use memory_map::map::Map;
 use memory_map::region::Right;
@@ -40,19 +39,10 @@ pub(crate) fn read(map: Map, memory: &[u8], packet: &[u8], output: &mut [u8]) ->
     requires { ⌜ (4 ≤ length (now packet)) × (272 ≤ length (now output)) × (sound map (length (now memory)) ≡ true) ⌝ }
     ensures { λ r. ⌜ record { reply = replyOf r; memory = now (memory .entry); output = now (output .exit) } ≡ answered (readPacket (lookup map) (now (packet .entry)) (now (memory .entry))) (now (output .entry)) ⌝ }
 {
-    if packet.len() < 16 {
-        return crate::reply::coded(0x81, packet, output);
+    match crate::packet::judge(packet, false) {
+        Transfer::Codes(code) => crate::reply::coded(code, packet, output),
+        Transfer::Moves => read_range(map, memory, packet, output),
     }
-    if is_too_large(packet) {
-        return crate::reply::coded(0x84, packet, output);
-    }
-    if is_misaligned(packet) {
-        return crate::reply::coded(0x84, packet, output);
-    }
-    if le_word_at(packet, 8) == 0 {
-        return crate::reply::coded(0x80, packet, output);
-    }
-    read_range(map, memory, packet, output)
 }
 
 // The packet's data into a range, where it is permitted.
@@ -71,33 +61,13 @@ fn write_range(map: Map, memory: &mut [u8], packet: &[u8], output: &mut [u8]) ->
     }
 }
 
-// The tests of a WRITE packet that has its three arguments, and fits its length.
-fn write_whole(map: Map, memory: &mut [u8], packet: &[u8], output: &mut [u8]) -> Reply
-    requires { ⌜ (272 ≤ length (now output)) × (sound map (length (now memory)) ≡ true) × (length (now packet) ≡ 16 + arg2 (now packet)) ⌝ }
-    ensures { λ r. ⌜ record { reply = replyOf r; memory = now (memory .exit); output = now (output .exit) } ≡ answered (writeWhole (lookup map) (now (packet .entry)) (now (memory .entry))) (now (output .entry)) ⌝ }
-{
-    if is_misaligned(packet) {
-        return crate::reply::coded(0x84, packet, output);
-    }
-    if le_word_at(packet, 8) == 0 {
-        return crate::reply::coded(0x80, packet, output);
-    }
-    write_range(map, memory, packet, output)
-}
-
 // A WRITE packet.
 pub(crate) fn write(map: Map, memory: &mut [u8], packet: &[u8], output: &mut [u8]) -> Reply
     requires { ⌜ (4 ≤ length (now packet)) × (272 ≤ length (now output)) × (sound map (length (now memory)) ≡ true) ⌝ }
     ensures { λ r. ⌜ record { reply = replyOf r; memory = now (memory .exit); output = now (output .exit) } ≡ answered (writePacket (lookup map) (now (packet .entry)) (now (memory .entry))) (now (output .entry)) ⌝ }
 {
-    if packet.len() < 16 {
-        return crate::reply::coded(0x81, packet, output);
+    match crate::packet::judge(packet, true) {
+        Transfer::Codes(code) => crate::reply::coded(code, packet, output),
+        Transfer::Moves => write_range(map, memory, packet, output),
     }
-    if is_too_large(packet) {
-        return crate::reply::coded(0x84, packet, output);
-    }
-    if packet.len() != 16 + le_word_at(packet, 8) as usize {
-        return crate::reply::coded(0x81, packet, output);
-    }
-    write_whole(map, memory, packet, output)
 }
