@@ -27,7 +27,8 @@ extern "C" {
  * calls refuse it with 1.
  * A region is `length` addresses from `base` on, which are the bytes of `memory` from `place` on. Base and length are multiples of 4, the
  * length is 4 to 16777216, base + length at most 4294967280. No two regions share an address or a byte of memory. Whether every region
- * ends inside memory is tested by the calls that take both.
+ * ends inside memory is tested by the calls that take both. Regions may be added in any order; a map whose regions ascend, in addresses
+ * and in places, is tested fastest.
  */
 #define REIDHINTSJE_MAP_BYTES 132
 
