@@ -28,7 +28,7 @@ fn perform_command(map: Map, memory: &mut [u8], command: Command)
         Command::Fill { to, length, word } => {
             let target = place(map.lookup(Right::Write, to, length));
             let end = target + length as usize;
-            words::fill::fill(&mut memory[target..end], word);
+            word_blocks::fill::fill(&mut memory[target..end], word);
         }
         Command::Exec { address: _ } => {}
         Command::Other { command: _ } => {}

@@ -20,7 +20,7 @@ pub(crate) fn store_blocks(map: Map, memory: &mut [u8], s: &[u8], offset: usize)
         let at = crate::walk::pads_end(s, next);
         match crate::walk::item_at(map, s, at) {
             Item::Block { place, from, to } => {
-                words::swap::put(memory, place, &s[from..to]);
+                word_blocks::swap::put(memory, place, &s[from..to]);
                 next = to;
             }
             Item::Halt(_) => {

@@ -39,7 +39,7 @@ fn fill_block(output: &mut [u8], at: usize, address: u32, size: usize, word: u32
     let little = turned(word);
     let start = at + 7;
     let end = start + size;
-    words::fill::fill(&mut output[start..end], little);
+    word_blocks::fill::fill(&mut output[start..end], little);
 }
 
 // A block of bytes that are whole words.
@@ -49,7 +49,7 @@ fn data_block(output: &mut [u8], at: usize, address: u32, source: &[u8])
 {
     let count = source.len() / 4;
     put_header(output, at, count as u16, address);
-    words::swap::put(output, at + 7, source);
+    word_blocks::swap::put(output, at + 7, source);
 }
 
 // The bytes of a piece's block.

@@ -2,6 +2,4 @@
 pub mod read; // numbers out of bytes
 pub mod put; // numbers into bytes
 pub mod four; // four words at a time
-pub mod fill; // a word repeated
-pub mod swap; // words between Big and Little Endian
 pub mod range; // ranges that share a number, and lengths rounded up

@@ -26,50 +26,18 @@ fn number_of_four(a: u8, b: u8, c: u8, d: u8) -> u32
     a as u32 + 256 * (b as u32) + 65536 * (c as u32) + 16777216 * (d as u32)
 }
 
-// The first bytes as a number, where some may be past the end.
-fn short_le_half(s: &[u8]) -> u16
-    ensures { λ r. ⌜ r ≡ littleEndianAt 2 (now (s .entry)) 0 ⌝ }
-{
-    number_of_two(byte_at(s, 0), byte_at(s, 1))
-}
-
-fn short_be_half(s: &[u8]) -> u16
-    ensures { λ r. ⌜ r ≡ bigEndianAt 2 (now (s .entry)) 0 ⌝ }
-{
-    number_of_two(byte_at(s, 1), byte_at(s, 0))
-}
-
+// The Little Endian number in the first four bytes, of which some may be past the end.
 fn short_le_word(s: &[u8]) -> u32
     ensures { λ r. ⌜ r ≡ littleEndianAt 4 (now (s .entry)) 0 ⌝ }
 {
     number_of_four(byte_at(s, 0), byte_at(s, 1), byte_at(s, 2), byte_at(s, 3))
 }
 
-fn short_be_word(s: &[u8]) -> u32
-    ensures { λ r. ⌜ r ≡ bigEndianAt 4 (now (s .entry)) 0 ⌝ }
-{
-    number_of_four(byte_at(s, 3), byte_at(s, 2), byte_at(s, 1), byte_at(s, 0))
-}
-
-fn short_le_word_at(s: &[u8], at: usize) -> u32
-    ensures { λ r. ⌜ r ≡ littleEndianAt 4 (now (s .entry)) at ⌝ }
-{
-    if at <= s.len() {
-        short_le_word(&s[at..])
-    } else {
-        0
-    }
-}
-
 // The Little Endian number in the first two bytes.
 pub fn le_half(s: &[u8]) -> u16
     ensures { λ r. ⌜ r ≡ littleEndianAt 2 (now (s .entry)) 0 ⌝ }
 {
-    if 2 <= s.len() {
-        number_of_two(s[0], s[1])
-    } else {
-        short_le_half(s)
-    }
+    number_of_two(byte_at(s, 0), byte_at(s, 1))
 }
 
 // The Little Endian number in four bytes that stand in the slice.
@@ -85,28 +53,19 @@ pub fn le_word_at(s: &[u8], at: usize) -> u32
     ensures { λ r. ⌜ r ≡ littleEndianAt 4 (now (s .entry)) at ⌝ }
 {
     if crate::range::fits(at, 4, s.len()) {
-        whole_le_word(s, at)
-    } else {
-        short_le_word_at(s, at)
+        return whole_le_word(s, at);
     }
-}
-
-// The Little Endian number in the first four bytes.
-pub fn le_word(s: &[u8]) -> u32
-    ensures { λ r. ⌜ r ≡ littleEndianAt 4 (now (s .entry)) 0 ⌝ }
-{
-    le_word_at(s, 0)
+    if at <= s.len() {
+        return short_le_word(&s[at..]);
+    }
+    0
 }
 
 // The Big Endian number in the first two bytes.
 pub fn be_half(s: &[u8]) -> u16
     ensures { λ r. ⌜ r ≡ bigEndianAt 2 (now (s .entry)) 0 ⌝ }
 {
-    if 2 <= s.len() {
-        number_of_two(s[1], s[0])
-    } else {
-        short_be_half(s)
-    }
+    number_of_two(byte_at(s, 1), byte_at(s, 0))
 }
 
 // The Big Endian number in the first four bytes.
@@ -114,8 +73,7 @@ pub fn be_word(s: &[u8]) -> u32
     ensures { λ r. ⌜ r ≡ bigEndianAt 4 (now (s .entry)) 0 ⌝ }
 {
     if 4 <= s.len() {
-        number_of_four(s[3], s[2], s[1], s[0])
-    } else {
-        short_be_word(s)
+        return number_of_four(s[3], s[2], s[1], s[0]);
     }
+    number_of_four(byte_at(s, 3), byte_at(s, 2), byte_at(s, 1), byte_at(s, 0))
 }

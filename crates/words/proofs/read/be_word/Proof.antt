@@ -20,15 +20,28 @@ shared-slice-read-number-of-four-4 c = search needs
 number-of-four-requires : tie.Need-number-of-four-requires
 number-of-four-requires c κs = search needs
 
-short-be-word-requires : tie.Need-short-be-word-requires
-short-be-word-requires c κs = search needs
-
 returns : tie.Need-returns
 unfolding bigEndianAt fromBigEndian
 returns c = rw first-four (c .number-of-four .ensures)
 
+byte-at-requires : tie.Need-byte-at-requires
+byte-at-requires c κs = search needs
+
+byte-at-requires-2 : tie.Need-byte-at-requires-2
+byte-at-requires-2 c κs = search needs
+
+byte-at-requires-3 : tie.Need-byte-at-requires-3
+byte-at-requires-3 c κs = search needs
+
+byte-at-requires-4 : tie.Need-byte-at-requires-4
+byte-at-requires-4 c κs = search needs
+
+number-of-four-requires-2 : tie.Need-number-of-four-requires-2
+number-of-four-requires-2 c κs = search needs
+
 returns-2 : tie.Need-returns-2
-returns-2 c = search needs
+unfolding bigEndianAt fromBigEndian
+returns-2 c = simp (first-four, c .number-of-four2 .ensures, c .before .byte-at4 .ensures, c .before .before .byte-at3 .ensures, c .before .before .before .byte-at2 .ensures, c .before .before .before .before .byte-at .ensures)
 
 pub be-word-spec : {M : Type 1} → statement M
 be-word-spec =
@@ -39,6 +52,10 @@ be-word-spec =
     shared-slice-read-number-of-four-3
     shared-slice-read-number-of-four-4
     number-of-four-requires
-    short-be-word-requires
     returns
+    byte-at-requires
+    byte-at-requires-2
+    byte-at-requires-3
+    byte-at-requires-4
+    number-of-four-requires-2
     returns-2)

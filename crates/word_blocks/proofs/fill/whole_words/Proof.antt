@@ -1,18 +1,18 @@
--- `words::fill::whole_words` meets its contract. The loop's invariant: the word repeated i times is stored so far.
+-- `word_blocks::fill::whole_words` meets its contract. The loop's invariant: the word repeated i times is stored so far.
 use mathlib.Core.Path.{_≡_, refl, ap, sym, _∙_}
 use mathlib.Core.List.{List}
 use Prim.Native.Nat.{ℕ, _+_, _-_, _*_, _/_, _%_, _≤_}
 use native.Mathlib.Omega.{arith}
 use lib.ListN.{length, set, length-set}
 use borrow.Author.Needs.{needs}
 use Rattle.words.specs.Bytes.{littleEndian}
 use Rattle.words.specs.Bytes.Laws.{word-bytes, length-littleEndian}
 use Rattle.words.specs.Repeat.{repeated}
 use Rattle.words.specs.Repeat.Laws.{repeated-more, length-repeated}
 use Rattle.words.specs.Store.{store, storeIfFits}
 use Rattle.words.specs.Store.Laws.{four-sets, store-behind, store-nil}
-use Rattle.words.proofs.fill.whole_words.Statement.{statement}
-use Rattle.words.proofs.fill.whole_words.Tie as tie
+use Rattle.word_blocks.proofs.fill.whole_words.Statement.{statement}
+use Rattle.word_blocks.proofs.fill.whole_words.Tie as tie
 
 abbrev Inv-loop : tie.InvT-loop
 Inv-loop part₀ word n i₀ part i = (i ≤ n) × ((length part ≡ length part₀) × (part ≡ store part₀ 0 (repeated i word)))

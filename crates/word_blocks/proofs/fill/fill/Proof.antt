@@ -1,4 +1,4 @@
--- `words::fill::fill` meets its contract: the whole words and the bytes behind them are the word repeated, cut at the length.
+-- `word_blocks::fill::fill` meets its contract: the whole words and the bytes behind them are the word repeated, cut at the length.
 use mathlib.Core.Path.{_≡_, ap, _∙_}
 use mathlib.Core.List.{List, _++_}
 use Prim.Native.Nat.{ℕ, _+_, _*_, _/_, _%_}
@@ -6,14 +6,14 @@ use native.Mathlib.Omega.{arith}
 use lib.ListN.{length, length-append}
 use borrow.Author.Needs.{needs}
 use borrow.Rule.Slice.PartMut.{mid-len}
 use Rattle.words.specs.Bytes.{littleEndian}
 use Rattle.words.specs.Bytes.Laws.{length-littleEndian}
 use Rattle.words.specs.Repeat.{repeated, filling}
 use Rattle.words.specs.Repeat.Laws.{length-repeated, filling-split}
 use Rattle.words.specs.Store.{store}
 use Rattle.words.specs.Store.Laws.{store-part, store-adjoining, store-whole}
-use Rattle.words.proofs.fill.fill.Statement.{statement}
-use Rattle.words.proofs.fill.fill.Tie as tie
+use Rattle.word_blocks.proofs.fill.fill.Statement.{statement}
+use Rattle.word_blocks.proofs.fill.fill.Tie as tie
 
 -- the bytes behind the whole words, stored behind them
 both : (m s r : List ℕ) (w : ℕ) → s ≡ store m 0 (repeated (length m / 4) w) → r ≡ littleEndian (length m % 4) w

@@ -13,8 +13,8 @@ fn swap_whole(source: &[u8], part: &mut [u8])
     let mut at: usize = 0;
     while at < source.len() {
         let next = at + 4;
-        let word = crate::read::be_word(&source[at..next]);
-        crate::put::le_word(&mut part[at..next], 0, word);
+        let word = words::read::be_word(&source[at..next]);
+        words::put::le_word(&mut part[at..next], 0, word);
         at = next;
     }
 }
@@ -23,10 +23,10 @@ fn swap_whole(source: &[u8], part: &mut [u8])
 pub fn put(s: &mut [u8], at: usize, source: &[u8])
     ensures { λ _. ⌜ now (s .exit) ≡ storeIfFits (now (s .entry)) at (swapWords (now (source .entry))) ⌝ }
 {
-    if crate::range::fits(at, source.len(), s.len()) {
+    if words::range::fits(at, source.len(), s.len()) {
         let whole = source.len() / 4 * 4;
         let middle = at + whole;
         swap_whole(&source[0..whole], &mut s[at..middle]);
-        crate::put::bytes(s, middle, &source[whole..]);
+        words::put::bytes(s, middle, &source[whole..]);
     }
 }

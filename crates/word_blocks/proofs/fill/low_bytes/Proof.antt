@@ -1,4 +1,4 @@
--- `words::fill::low_bytes` meets its contract. The loop's invariant: the bytes stored, and behind them those of what is left of the word, are the word's.
+-- `word_blocks::fill::low_bytes` meets its contract. The loop's invariant: the bytes stored, and behind them those of what is left of the word, are the word's.
 use mathlib.Core.Path.{_≡_, refl, sym, _∙_}
 use mathlib.Core.List.{List, _++_, append-assoc, append-nil}
 use Prim.Native.Nat.{ℕ, suc, _+_, _-_, _/_, _%_, _≤_, _<_}
@@ -7,9 +7,9 @@ use native.Mathlib.Omega.{arith}
 use lib.ListN.{length, take, set, length-set}
 use lib.Seq.{take-suc-set, take-all}
 use borrow.Author.Needs.{needs}
 use Rattle.words.specs.Bytes.{littleEndian}
-use Rattle.words.proofs.fill.low_bytes.Statement.{statement}
-use Rattle.words.proofs.fill.low_bytes.Tie as tie
+use Rattle.word_blocks.proofs.fill.low_bytes.Statement.{statement}
+use Rattle.word_blocks.proofs.fill.low_bytes.Tie as tie
 
 abbrev Inv-loop : tie.InvT-loop
 Inv-loop part₀ word rest₀ i₀ part rest i =

@@ -1,19 +1,19 @@
--- `words::swap::swap_whole` meets its contract. The loop's invariant: the part is the words passed, swapped, stored over the part as it was. The measure is what is left of the words.
+-- `word_blocks::swap::swap_whole` meets its contract. The loop's invariant: the part is the words passed, swapped, stored over the part as it was. The measure is what is left of the words.
 use Prim.Native.Nat.{_+_, _-_, _%_, _≤_}
 use mathlib.Core.Path.{_≡_, refl, sym, _∙_}
 use borrow.Author.Needs.{needs}
 use native.Mathlib.Omega.{arith}
 use lib.ListN.{length, take, drop}
 use Rattle.words.specs.Store.{store}
 use Rattle.words.specs.Swap.{swapWords}
 use Rattle.words.specs.Swap.Laws.{length-swap, swap-number, swap-more}
 use Rattle.words.specs.Store.Laws.{store-fits, store-nil, store-whole, store-part}
 use Rattle.words.specs.Choice.Laws.{all-elements, all-take, all-drop}
 use Rattle.words.specs.Bytes.{Bytes}
 use lib.Seq.{take-all}
 use borrow.Rule.Slice.PartMut.{mid-len, same-len-mid}
-use Rattle.words.proofs.swap.swap_whole.Statement.{statement}
-use Rattle.words.proofs.swap.swap_whole.Tie as tie
+use Rattle.word_blocks.proofs.swap.swap_whole.Statement.{statement}
+use Rattle.word_blocks.proofs.swap.swap_whole.Tie as tie
 
 abbrev Inv-loop : tie.InvT-loop
 Inv-loop source part₀ at₀ part at =

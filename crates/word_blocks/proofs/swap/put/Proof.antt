@@ -1,4 +1,4 @@
--- `words::swap::put` meets its contract: the whole words, and the bytes behind them, are one store.
+-- `word_blocks::swap::put` meets its contract: the whole words, and the bytes behind them, are one store.
 use borrow.Author.Needs.{needs}
 use mathlib.Core.Path.{_≡_, ap, sym, _∙_}
 use Prim.Native.Nat.{_+_, _-_, _*_, _/_, _≤_}
@@ -7,13 +7,13 @@ use borrow.Author.Tests.{leb-true, leb-false}
 use lib.ListN.{length, take, drop}
 use lib.Seq.{take-all, length-take-le}
 use lib.ListN.{length-drop}
 use Rattle.words.specs.Swap.Laws.{swap-whole-words}
 use Rattle.words.specs.Swap.Laws.{length-swap}
 use Rattle.words.specs.Swap.{swapWords}
 use Rattle.words.specs.Store.Laws.{store-part, store-fits, store-unfit, store-behind}
 use Rattle.words.specs.Store.{store}
-use Rattle.words.proofs.swap.put.Statement.{statement}
-use Rattle.words.proofs.swap.put.Tie as tie
+use Rattle.word_blocks.proofs.swap.put.Statement.{statement}
+use Rattle.word_blocks.proofs.swap.put.Tie as tie
 
 -- the test that the bytes fit
 inside : (c : tie.Then1) → let x = c .before .before .before .before .args in x .at + length (x .source .now) ≤ length (x .s .now)
