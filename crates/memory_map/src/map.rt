@@ -175,7 +175,7 @@ impl Map {
         }
     }
 
-    // Whether the map keeps every rule that needs no buffer.
+    // Whether the map keeps every rule that needs no buffer. Regions of 32-bit numbers all end inside 2^33 bytes.
     pub fn well_formed(self) -> bool
         ensures { λ r. ⌜ r ≡ wellFormed self ⌝ }
     {

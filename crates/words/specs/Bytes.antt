@@ -1,5 +1,6 @@
 -- Numbers as bytes, over the width in bytes: a halfword has 2, a word has 4. A byte is a number below 256.
 pub mod Laws
+pub mod Padded
 use mathlib.Core.List.{List, [], _∷_, reverse}
 use Prim.Native.Nat.{ℕ, zero, suc, _+_, _*_, _/_, _%_, _<_}
 use lib.ListN.{drop}

@@ -1,4 +1,4 @@
-// Numbers out of the bytes of a slice. Bytes past its end count as zero; where none is past it, one test comes before plain reads.
+// Numbers out of the bytes of a slice. Bytes past its end count as zero; a word that has none there is read plainly after one test.
 ghost use mathlib.Core.Path.{_≡_};
 ghost use mathlib.Core.List.{[], _∷_};
 ghost use Prim.Native.Nat.{_+_, _≤_};

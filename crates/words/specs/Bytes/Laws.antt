@@ -4,7 +4,7 @@ use mathlib.Core.List.{List, [], _∷_, _++_, reverse, reverse-reverse}
 use Prim.Native.Nat.{ℕ, zero, suc, _+_, _*_, _-_, _/_, _%_, _^_, _≤_, _<_}
 use native.Mathlib.Nat.{add-zero, pow-suc, div-div-eq-div-mul}
 use native.Mathlib.Omega.{arith}
-use lib.ListN.{length, take, drop, getD, replicate, length-append, length-drop, length-reverse, drop-of-length-le}
+use lib.ListN.{length, take, drop, getD, length-append, length-drop, length-reverse, drop-of-length-le}
 use lib.Seq.{drop-drop, drop-append-add, getD-drop, take-all, take-at}
 use Rattle.words.specs.Choice.Laws.{all-drop, all-reverse}
 use Rattle.words.specs.Bytes.{littleEndian, bigEndian, fromLittleEndian, fromBigEndian, firstBytes, littleEndianAt, bigEndianAt, Bytes}
@@ -211,27 +211,3 @@ pub record Examples : Type 0 where
 pub examples : Examples
 unfolding littleEndian bigEndian fromLittleEndian fromBigEndian firstBytes littleEndianAt bigEndianAt
 examples = record { little = refl; big = refl; half = refl; little-at = refl; big-at = refl; cut = refl }
-
--- ---- zeros behind a list change no number in it
-first-zeros : (k p n : ℕ) → firstBytes k (drop p (replicate n 0)) ≡ firstBytes k []
-unfolding firstBytes
-first-zeros zero p n = refl
-first-zeros (suc k) zero zero = refl
-first-zeros (suc k) zero (suc n) = ap (λ (l : List ℕ). 0 ∷ l) (first-zeros k zero n)
-first-zeros (suc k) (suc p) zero = refl
-first-zeros (suc k) (suc p) (suc n) = first-zeros (suc k) p n
-
-first-padded : (k p n : ℕ) (s : List ℕ) → firstBytes k (s ++ drop p (replicate n 0)) ≡ firstBytes k s
-unfolding firstBytes
-first-padded zero p n s = refl
-first-padded (suc k) p n [] = first-zeros (suc k) p n
-first-padded (suc k) p n (b ∷ s) = ap (λ (l : List ℕ). b ∷ l) (first-padded k p n s)
-
-padded : (k i p n : ℕ) (s : List ℕ) → firstBytes k (drop i (s ++ drop p (replicate n 0))) ≡ firstBytes k (drop i s)
-padded k zero p n s = first-padded k p n s
-padded k (suc i) p n [] = rw (drop-drop (suc i) p (replicate {A = ℕ} n 0)) (first-zeros k (p + suc i) n)
-padded k (suc i) p n (b ∷ s) = padded k i p n s
-
-pub little-at-padded : (k i p n : ℕ) (s : List ℕ) → littleEndianAt k (s ++ drop p (replicate n 0)) i ≡ littleEndianAt k s i
-unfolding littleEndianAt
-little-at-padded k i p n s = ap fromLittleEndian (padded k i p n s)

@@ -58,12 +58,6 @@ pub all-elements : {A : Type 0} (P : A → Type 0) (d : A) (l : List A) → ((i 
 all-elements P d [] f = tt
 all-elements P d (x ∷ xs) f = (f 0, all-elements P d xs (λ i. f (suc i)))
 
--- the element at place i
-pub all-at : {A : Type 0} (P : A → Type 0) (d : A) (l : List A) (i : ℕ) → i < length l → All P l → P (getD l i d)
-all-at P d [] i h a = absurd (omega arith)
-all-at P d (x ∷ xs) zero h a = a .0
-all-at P d (x ∷ xs) (suc i) h a = all-at P d xs i (omega arith) (a .1)
-
 pub all-map : {A : Type 0} (P Q : A → Type 0) (l : List A) → ((x : A) → P x → Q x) → All P l → All Q l
 all-map P Q [] f h = tt
 all-map P Q (x ∷ xs) f h = (f x (h .0), all-map P Q xs f (h .1))

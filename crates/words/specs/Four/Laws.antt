@@ -7,7 +7,8 @@ use native.Mathlib.Omega.{arith}
 use lib.ListN.{length, take, drop, replicate, length-append, length-drop, length-replicate}
 use lib.Seq.{take-all}
 use Rattle.words.specs.Bytes.{littleEndian, littleEndianAt}
-use Rattle.words.specs.Bytes.Laws.{length-littleEndian, little-at-past, little-at-drop, little-at-padded}
+use Rattle.words.specs.Bytes.Laws.{length-littleEndian, little-at-past, little-at-drop}
+use Rattle.words.specs.Bytes.Padded.{little-at-padded}
 use Rattle.words.specs.Store.{store, storeIfFits}
 use Rattle.words.specs.Store.Laws.{store-fits, store-behind}
 use Rattle.words.specs.Four.{fourAt, fourBytes}
