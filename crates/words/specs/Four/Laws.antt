@@ -15,12 +15,7 @@ use Rattle.words.specs.Four.{fourAt, fourBytes}
 
 pub length-fourBytes : (a b c d : ℕ) → length (fourBytes a b c d) ≡ 16
 unfolding fourBytes
-length-fourBytes a b c d =
-    let i = littleEndian 4 a in
-    let j = littleEndian 4 b in
-    let k = littleEndian 4 c in
-    let l = littleEndian 4 d in
-    length-append i (j ++ (k ++ l)) ∙ omega (arith, length-append j (k ++ l), length-append k l, length-littleEndian 4 a, length-littleEndian 4 b, length-littleEndian 4 c, length-littleEndian 4 d)
+length-fourBytes a b c d = simp (length-append, length-littleEndian)
 
 -- where they fit
 pub four-fits : (m : List ℕ) (p a b c d : ℕ) → p + 16 ≤ length m → storeIfFits m p (fourBytes a b c d) ≡ store m p (fourBytes a b c d)
