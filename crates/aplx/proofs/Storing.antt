@@ -7,11 +7,11 @@ use native.Mathlib.Nat.{sub-zero}
 use native.Mathlib.Omega.{arith}
 use lib.ListN.{length}
 use Rattle.memory_map.specs.declared.region.Right.the-variants.{Read}
-use Rattle.memory_map.specs.Lookup.{Lookup, found}
-use Rattle.memory_map.specs.Lookup.Laws.{Lawful}
+use Rattle.memory_map.specs.Lookup.{Lookup, found, placeOf}
+use Rattle.memory_map.specs.Lookup.Laws.{Lawful, found-at, found-place}
 use Rattle.aplx_look.specs.Command.{Command, commandAt}
-use Rattle.aplx_look.specs.Walk.{placeOf, commands}
-use Rattle.aplx_look.specs.Walk.Laws.{found-at, found-place, Entry, goes-found, commands-next, commands-end}
+use Rattle.aplx_look.specs.Walk.{commands}
+use Rattle.aplx_look.specs.Walk.Laws.{Entry, goes-found, commands-next, commands-end}
 use Rattle.aplx_look.specs.Look.{meetsHeader}
 use Rattle.aplx_look.specs.Look.Laws.{Ready}
 use Rattle.aplx.specs.Load.{perform, performAll}

@@ -7,11 +7,10 @@ use Rattle.words.specs.Repeat.{repeated}
 use Rattle.words.specs.Store.{store}
 use Rattle.memory_map.specs.declared.region.Right.the-variants.{Read, Write}
 use Rattle.memory_map.specs.declared.map.Map.{Map}
-use Rattle.memory_map.specs.Outcome.{memoryAt, Loaded}
-use Rattle.memory_map.specs.Lookup.{Lookup, lookup}
+use Rattle.outcome.specs.Outcome.{memoryAt, Loaded}
+use Rattle.memory_map.specs.Lookup.{Lookup, lookup, placeOf}
 use Rattle.aplx_copy.specs.Copy.{copied}
 use Rattle.aplx_look.specs.Command.{Command, copy, fill, exec, other}
-use Rattle.aplx_look.specs.Walk.{placeOf}
 use Rattle.aplx_look.specs.Look.{Look, look, aplxLook, outcomeOfLook}
 
 -- ---- the commands

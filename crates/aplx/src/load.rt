@@ -1,9 +1,9 @@
 // The load of an APLX image.
 ghost use mathlib.Core.Path.{_≡_};
-ghost use Rattle.memory_map.specs.Outcome.{outcomeOf};
+ghost use Rattle.outcome.specs.Outcome.{outcomeOf};
 ghost use Rattle.aplx.specs.Load.{aplxLoad};
-use memory_map::answer::Answer;
 use memory_map::map::Map;
+use outcome::answer::Answer;
 
 // Loads the image whose header is at an address, up to the first run or other stop. A refused load changes no byte.
 pub fn load(map: Map, memory: &mut [u8], header: u32) -> Answer

@@ -10,8 +10,8 @@ ghost use Rattle.aplx_look.specs.Code.{commandIs};
 ghost use Rattle.aplx.specs.Load.{perform, performAll};
 ghost use Rattle.aplx.specs.Load.Laws.{Performable};
 use aplx_look::command::Command;
-use aplx_look::walk::place;
 use memory_map::map::Map;
+use memory_map::map::place;
 use memory_map::region::Right;
 
 // One command whose ranges are permitted.

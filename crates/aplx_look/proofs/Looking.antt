@@ -4,7 +4,7 @@ use mathlib.Core.List.{List}
 use Prim.Native.Nat.{ℕ, suc, _*_, _%_, _<_}
 use lib.ListN.{length}
 use borrow.Author.Tests.{eq-eqb}
-use Rattle.memory_map.specs.Outcome.{Stop, Ending, stops, refuses, refused, outcomeAt}
+use Rattle.outcome.specs.Outcome.{Stop, Ending, stops, refuses, refused, outcomeAt}
 use Rattle.memory_map.specs.Lookup.{Lookup}
 use Rattle.aplx_look.specs.Walk.{Walk, walk, commands}
 use Rattle.aplx_look.specs.Walk.Laws.{Passed, walk-passed, stop-count, length-commands}

@@ -1,7 +1,7 @@
 -- What the cases of the code's enums say, in the terms of the definitions.
 use Prim.Native.Nat.{ℕ}
 use mathlib.Core.Path.{_≡_}
-use Rattle.memory_map.specs.Outcome.{stopOf, Ending, stops, refuses}
+use Rattle.outcome.specs.Outcome.{stopOf, Ending, stops, refuses}
 use Rattle.aplx_look.specs.declared.command.Command as code-command
 use Rattle.aplx_look.specs.declared.command.Command.the-variants.{Copy, Fill, Exec, Other}
 use Rattle.aplx_look.specs.declared.judge.Verdict as code-verdict

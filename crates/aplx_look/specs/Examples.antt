@@ -6,7 +6,7 @@ use Prim.Native.Nat.{ℕ}
 use lib.ListN.{take, replicate}
 use Rattle.words.specs.Four.{fourBytes}
 use Rattle.memory_map.specs.declared.region.Region.{Region}
-use Rattle.memory_map.specs.Outcome.{Outcome, refused, accepted, end, unknown, run, arm, thumb}
+use Rattle.outcome.specs.Outcome.{Outcome, refused, accepted, end, unknown, run, arm, thumb}
 use Rattle.memory_map.specs.Lookup.{Lookup, lookupIn}
 use Rattle.aplx_look.specs.Look.{look, outcomeOfLook}
 use Rattle.aplx_look.specs.Open as group

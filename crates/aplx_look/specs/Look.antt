@@ -9,7 +9,7 @@ use lib.ListN.{length}
 use Rattle.words.specs.Choice.{if_then_else_}
 use Rattle.words.specs.Range.{meets}
 use Rattle.memory_map.specs.declared.map.Map.{Map}
-use Rattle.memory_map.specs.Outcome.{Ending, stops, refuses, Outcome, outcomeAt}
+use Rattle.outcome.specs.Outcome.{Ending, stops, refuses, Outcome, outcomeAt}
 use Rattle.memory_map.specs.Map.{sound}
 use Rattle.memory_map.specs.Lookup.{Lookup, lookup}
 use Rattle.aplx_look.specs.Command.{Command, copy, fill, exec, other}

@@ -6,9 +6,9 @@ use Prim.Native.Nat.{ℕ, zero, suc, _+_, _%_}
 use lib.Dec.{eqb}
 use Rattle.words.specs.Choice.{if_then_else_}
 use Rattle.memory_map.specs.declared.region.Right.the-variants.{Read, Write}
-use Rattle.memory_map.specs.Outcome.{end, unknown, run, Ending, stops, refuses}
+use Rattle.outcome.specs.Outcome.{end, unknown, run, Ending, stops, refuses}
 use Rattle.memory_map.specs.Lookup as map
-use Rattle.memory_map.specs.Lookup.{Lookup, Found}
+use Rattle.memory_map.specs.Lookup.{Lookup, Found, placeOf}
 use Rattle.memory_map.specs.Entry as entry
 use Rattle.memory_map.specs.Entry.{RunEntry, runEntry}
 use Rattle.aplx_look.specs.Command.{Command, copy, fill, exec, other, commandAt}
@@ -71,11 +71,6 @@ walkFor (suc f) find m a i = after (judge find m a i) i (walkFor f find m (a + 1
 
 unfoldable pub walk : Lookup → List ℕ → ℕ → Walk
 walk find m h = walkFor 256 find m h 0
-
--- where an entry stands in memory. Read only where it was found
-abbrev pub placeOf : Found → ℕ
-placeOf (map.at p) = p
-placeOf (map.refused x) = 0
 
 -- the commands of n entries from address a on
 unfoldable pub commands : Lookup → List ℕ → ℕ → ℕ → List Command

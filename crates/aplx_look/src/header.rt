@@ -4,15 +4,15 @@ ghost use mathlib.Core.Bool.{true};
 ghost use Prim.Native.Nat.{suc, _*_, _<_};
 ghost use lib.ListN.{length};
 ghost use Rattle.memory_map.specs.Map.{sound};
-ghost use Rattle.memory_map.specs.Outcome as outcome;
+ghost use Rattle.outcome.specs.Outcome as outcome;
 ghost use Rattle.memory_map.specs.Lookup.{lookup};
 ghost use Rattle.aplx_look.specs.Walk.{commands};
 ghost use Rattle.aplx_look.specs.Walk.Laws.{Passed};
 ghost use Rattle.aplx_look.specs.Look.{meetsHeader, bytesOf, headerTest, bytesIn};
 ghost use Rattle.aplx_look.specs.Code.{commandIs, headerIs, StoredIs};
 use crate::command::Command;
-use crate::walk::place;
 use memory_map::map::Map;
+use memory_map::map::place;
 use memory_map::region::Right;
 
 pub(crate) enum Header {

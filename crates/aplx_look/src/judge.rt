@@ -9,15 +9,17 @@ ghost use Rattle.aplx_look.specs.Command.{copy, fill, exec};
 ghost use Rattle.aplx_look.specs.Walk.{goes, permitted, otherCommand, tests, judge};
 ghost use Rattle.aplx_look.specs.Code.{commandIs, verdictIs};
 use crate::command::Command;
-use memory_map::answer::ENTRY_NOT_READABLE;
-use memory_map::answer::NOT_ALIGNED;
-use memory_map::answer::Refusal;
-use memory_map::answer::Stop;
-use memory_map::answer::ZERO_LENGTH;
 use memory_map::map::Found;
 use memory_map::map::Map;
 use memory_map::map::RunEntry;
 use memory_map::region::Right;
+use outcome::answer::NOT_ALIGNED;
+use outcome::answer::Refusal;
+use outcome::answer::Stop;
+use outcome::answer::ZERO_LENGTH;
+
+// The refusal of an entry whose 16 bytes lie in no readable region.
+const ENTRY_NOT_READABLE: u32 = 6;
 
 pub(crate) enum Verdict {
     Goes,

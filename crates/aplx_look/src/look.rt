@@ -3,18 +3,20 @@ ghost use mathlib.Core.Path.{_≡_};
 ghost use mathlib.Core.Bool.{true};
 ghost use Prim.Native.Nat.{_%_};
 ghost use lib.ListN.{length};
-ghost use Rattle.memory_map.specs.Outcome.{outcomeOf};
+ghost use Rattle.outcome.specs.Outcome.{outcomeOf};
 ghost use Rattle.memory_map.specs.Map.{sound};
 ghost use Rattle.memory_map.specs.Lookup.{lookup};
 ghost use Rattle.aplx_look.specs.Look.{look, aplxLook, outcomeOfLook};
 use crate::header::Header;
 use crate::walk::Ending;
-use memory_map::answer::Answer;
-use memory_map::answer::MAP_NOT_SOUND;
-use memory_map::answer::MEETS_HEADER;
-use memory_map::answer::NOT_ALIGNED;
-use memory_map::answer::Refusal;
 use memory_map::map::Map;
+use memory_map::refusal::MAP_NOT_SOUND;
+use outcome::answer::Answer;
+use outcome::answer::NOT_ALIGNED;
+use outcome::answer::Refusal;
+
+// The refusal of a destination over the entries read.
+const MEETS_HEADER: u32 = 8;
 
 // The answer of a load with a sound map, from a header address that is a multiple of 4.
 fn look_entries(map: Map, memory: &[u8], header: u32) -> Answer

@@ -3,15 +3,16 @@ ghost use mathlib.Core.Path.{_≡_};
 ghost use mathlib.Core.Bool.{true};
 ghost use lib.ListN.{length};
 ghost use Rattle.memory_map.specs.Map.{sound};
-ghost use Rattle.memory_map.specs.Lookup.{lookup, foundOf};
-ghost use Rattle.aplx_look.specs.Walk.{placeOf, walk};
+ghost use Rattle.memory_map.specs.Lookup.{lookup};
+ghost use Rattle.aplx_look.specs.Walk.{walk};
 ghost use Rattle.aplx_look.specs.Code.{walkIs};
 use crate::judge::Verdict;
-use memory_map::answer::NO_STOP;
-use memory_map::answer::Refusal;
-use memory_map::answer::Stop;
-use memory_map::map::Found;
 use memory_map::map::Map;
+use outcome::answer::Refusal;
+use outcome::answer::Stop;
+
+// The refusal of 256 entries of which none stops.
+const NO_STOP: u32 = 7;
 
 pub(crate) enum Ending {
     Stops(Stop),
@@ -22,16 +23,6 @@ pub(crate) enum Ending {
 pub(crate) struct Walked {
     pub(crate) count: usize,
     pub(crate) ending: Ending,
-}
-
-// The place of a range that was found, or 0 where it was not.
-pub fn place(found: Found) -> usize
-    ensures { λ r. ⌜ r ≡ placeOf (foundOf found) ⌝ }
-{
-    match found {
-        Found::At(p) => p,
-        Found::Refused(_) => 0,
-    }
 }
 
 pub(crate) fn walk_entries(map: Map, memory: &[u8], header: u32) -> Walked

@@ -9,8 +9,8 @@ use Rattle.words.specs.Range.{meets}
 use Rattle.words.specs.Bytes.{littleEndian, fromLittleEndian, firstBytes, littleEndianAt}
 use Rattle.words.specs.Four.{fourBytes}
 use Rattle.words.specs.Store.{store}
-use Rattle.memory_map.specs.Outcome as load
-use Rattle.memory_map.specs.Outcome.{arm, thumb, end, unknown, run}
+use Rattle.outcome.specs.Outcome as load
+use Rattle.outcome.specs.Outcome.{arm, thumb, end, unknown, run}
 use Rattle.memory_map.specs.Region.{keepsRules, clear, endsInside}
 use Rattle.memory_map.specs.Map.{emptyMap, regionsOf, allKeepRules, wellFormed, sound, extended, add, taken, refused}
 use Rattle.plan.specs.Code as read

@@ -5,8 +5,8 @@ use Prim.Native.Nat.{ℕ}
 use lib.Dec.{eqb}
 use lib.ListN.{getD}
 use Rattle.words.specs.Choice.{if_then_else_}
-use Rattle.memory_map.specs.Outcome as load
-use Rattle.memory_map.specs.Outcome.{Kind, arm, thumb, end, unknown, run}
+use Rattle.outcome.specs.Outcome as load
+use Rattle.outcome.specs.Outcome.{Kind, arm, thumb, end, unknown, run}
 use Rattle.plan.specs.Code as read
 use Rattle.plan.specs.Packed as packed
 use Rattle.scp.specs.Answer as scp

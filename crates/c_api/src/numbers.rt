@@ -1,14 +1,14 @@
 // Outcomes as eight numbers.
 ghost use mathlib.Core.Path.{_≡_};
-ghost use Rattle.memory_map.specs.Outcome.{outcomeOf, stopOf, accepted, kindOf, addressOf};
+ghost use Rattle.outcome.specs.Outcome.{outcomeOf, stopOf, accepted, kindOf, addressOf};
 ghost use Rattle.plan.specs.Code as reader;
 ghost use Rattle.plan.specs.Code.Packer as packer;
 ghost use Rattle.scp.specs.Code.{replyOf};
 ghost use Rattle.c_api.specs.Numbers.{first, refusalNumbers, countNumbers, loadNumbers, readNumbers, packNumbers, runNumbers, replyNumbers};
-use memory_map::answer::Answer;
-use memory_map::answer::Entry;
-use memory_map::answer::Refusal;
-use memory_map::answer::Stop;
+use outcome::answer::Answer;
+use outcome::answer::Entry;
+use outcome::answer::Refusal;
+use outcome::answer::Stop;
 use scp::answer::Reply;
 
 fn refusal_numbers(refusal: Refusal) -> [u64; 8]

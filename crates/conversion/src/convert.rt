@@ -5,8 +5,8 @@ ghost use lib.ListN.{length};
 ghost use Rattle.words.specs.Store.{store};
 ghost use Rattle.text.specs.Refusal.{fitting};
 ghost use Rattle.conversion.specs.Conversion.{converted};
-use memory_map::answer::PLAN_MALFORMED;
 use plan::packed::Answer;
+use plan::piece::PLAN_MALFORMED;
 
 // The APLX image of a plan, or the line of its refusal, at the output's front. Answers its length; the output behind it is left as it was.
 pub fn convert(plan: &[u8], output: &mut [u8]) -> usize

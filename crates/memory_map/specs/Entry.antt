@@ -6,7 +6,7 @@ use Rattle.words.specs.Choice.{if_then_else_}
 use Rattle.memory_map.specs.declared.region.Right.the-variants.{Run}
 use Rattle.memory_map.specs.declared.map.RunEntry as code-entry
 use Rattle.memory_map.specs.declared.map.RunEntry.the-variants.{Legal, Refused}
-use Rattle.memory_map.specs.Outcome.{Kind, arm, thumb, kindOf, addressOf}
+use Rattle.outcome.specs.Outcome.{Kind, arm, thumb, kindOf, addressOf}
 use Rattle.memory_map.specs.Lookup.{Lookup, found}
 
 -- "bit 0 set is a Thumb entry: less 1, it must lie in a run region. With bits 1:0 both clear it is an ARM entry and must lie in

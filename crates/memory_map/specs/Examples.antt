@@ -6,10 +6,7 @@ use Prim.Native.Nat.{ℕ, zero, suc, _*_}
 use Rattle.memory_map.specs.declared.region.Region.{Region}
 use Rattle.memory_map.specs.declared.region.Right.the-variants.{Read, Write, Run}
 use Rattle.memory_map.specs.declared.map.Map.{Map}
-use Rattle.memory_map.specs.declared.answer.Entry.the-variants.{Arm, Thumb}
-use Rattle.memory_map.specs.declared.answer.Stop.the-variants as code-stop
-use Rattle.memory_map.specs.declared.answer.Answer.the-variants as code-answer
-use Rattle.memory_map.specs.Outcome as outcome
+use Rattle.outcome.specs.Outcome as outcome
 use Rattle.memory_map.specs.Map.{sound, emptyMap, Verdict, taken, add}
 use Rattle.memory_map.specs.Map as map
 use Rattle.memory_map.specs.Lookup.{at, refused, lookupIn}
@@ -115,14 +112,3 @@ lookups = record {
   thumb-outside = refl;
   no-run-right = refl;
 }
-
--- what the code's answers say
-record Answers : Type 0 where
-  pub refusal : outcome.outcomeOf (code-answer.Refused (record { number = 4; place = 7 })) ≡ outcome.refused 4 7
-  pub end : outcome.outcomeOf (code-answer.Accepted (code-stop.End 40) 1 32) ≡ outcome.accepted (outcome.end 40) 1 32
-  pub unknown : outcome.outcomeOf (code-answer.Accepted (code-stop.Unknown 9 2) 2 64) ≡ outcome.accepted (outcome.unknown 9 2) 2 64
-  pub arm : outcome.outcomeOf (code-answer.Accepted (code-stop.Run (Arm 4160) 23) 0 0) ≡ outcome.accepted (outcome.run outcome.arm 4160 23) 0 0
-  pub thumb : outcome.outcomeOf (code-answer.Accepted (code-stop.Run (Thumb 4161) 23) 0 0) ≡ outcome.accepted (outcome.run outcome.thumb 4161 23) 0 0
-
-answers : Answers
-answers = record { refusal = refl; end = refl; unknown = refl; arm = refl; thumb = refl }

@@ -1,5 +1,4 @@
--- The memory map (paper 01, "Memory map") and the outcome of a load (paper 01, "Refusal numbers").
-pub mod Outcome
+-- The memory map (paper 01, "Memory map").
 pub mod Region
 pub mod Map
 pub mod Lookup

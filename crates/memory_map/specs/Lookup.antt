@@ -24,6 +24,11 @@ abbrev pub found : Found → Bool
 found (at p) = true
 found (refused n) = false
 
+-- the place of a range. Read only where it was found
+abbrev pub placeOf : Found → ℕ
+placeOf (at p) = p
+placeOf (refused n) = 0
+
 -- the place in the first region that permits the range
 unfoldable pub lookupIn : List Region → Lookup
 lookupIn [] r a n = refused 4

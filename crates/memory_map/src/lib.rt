@@ -1,4 +1,4 @@
-// The memory map, and the answers that all loaders share.
-pub mod answer; // refusals, stops, and what a load answers
+// The memory map.
+pub mod refusal; // the numbers of its refusals
 pub mod region; // one region: addresses, place in the buffer, rights
 pub mod map; // up to eight regions: adding, soundness, lookup, run entries

@@ -6,16 +6,16 @@ ghost use Rattle.words.specs.Choice.{if_then_else_, every};
 ghost use Rattle.memory_map.specs.Region.{endsInside};
 ghost use Rattle.memory_map.specs.Map.Ascending.{ascending};
 ghost use Rattle.memory_map.specs.Map.{regionsOf, allKeepRules, emptyMap, wellFormed, sound, refused, add, additionOf};
-ghost use Rattle.memory_map.specs.Lookup.{lookup, foundOf};
+ghost use Rattle.memory_map.specs.Lookup.{placeOf, lookup, foundOf};
 ghost use Rattle.memory_map.specs.Entry.{runEntry, runEntryOf};
-use crate::answer::Entry;
-use crate::answer::MAP_NOT_SOUND;
-use crate::answer::NOT_PERMITTED;
-use crate::answer::RUN_NOT_LEGAL;
-use crate::answer::Refusal;
+use crate::refusal::MAP_NOT_SOUND;
+use crate::refusal::NOT_PERMITTED;
+use crate::refusal::RUN_NOT_LEGAL;
 use crate::region::Region;
 use crate::region::Right;
 use crate::region::Rights;
+use outcome::answer::Entry;
+use outcome::answer::Refusal;
 
 // Regions 0 to `count` - 1 are in use.
 pub struct Map {
@@ -44,6 +44,16 @@ pub enum Found {
 pub enum RunEntry {
     Legal(Entry),
     Refused(u32),
+}
+
+// The place of a range that was found, or 0 where it was not.
+pub fn place(found: Found) -> usize
+    ensures { λ r. ⌜ r ≡ placeOf (foundOf found) ⌝ }
+{
+    match found {
+        Found::At(p) => p,
+        Found::Refused(_) => 0,
+    }
 }
 
 fn refused(map: Map) -> Addition

@@ -1,5 +1,5 @@
 // What a packer answers.
-use memory_map::answer::Refusal;
+use outcome::answer::Refusal;
 
 // The length of the image, or the refusal.
 pub enum Answer {

@@ -5,13 +5,16 @@ ghost use Prim.Native.Nat.{ℕ, _%_};
 ghost use lib.Dec.{eqb};
 ghost use Rattle.plan.specs.Plan.{judgeRun, judgeFill, judgeData, judgePut, judgeKind, pieceAt};
 ghost use Rattle.plan.specs.Code.{unitOf, putLength, fillLength, judgedIs, WithinData};
-use memory_map::answer::CUT_SHORT;
-use memory_map::answer::LENGTH_NOT_EXPRESSIBLE;
-use memory_map::answer::NOT_ALIGNED;
-use memory_map::answer::PLAN_MALFORMED;
-use memory_map::answer::RUN_NOT_LEGAL;
-use memory_map::answer::ZERO_LENGTH;
+use memory_map::refusal::RUN_NOT_LEGAL;
+use outcome::answer::CUT_SHORT;
+use outcome::answer::NOT_ALIGNED;
+use outcome::answer::ZERO_LENGTH;
 use words::read::le_word_at;
+
+// The numbers of the refusals that only a plan is given.
+pub const PLAN_MALFORMED: u32 = 11;
+
+const LENGTH_NOT_EXPRESSIBLE: u32 = 12;
 
 // The medium whose lengths are asked for: multiples of 32, of 4, or any.
 pub enum Target {

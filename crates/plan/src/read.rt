@@ -5,13 +5,13 @@ ghost use lib.ListN.{length};
 ghost use Rattle.plan.specs.Plan.{dataAt, dataLength, readPieces, readPlan};
 ghost use Rattle.plan.specs.Code.{unitOf, outcomeOf, outcomeIs};
 use crate::piece::Judged;
+use crate::piece::PLAN_MALFORMED;
 use crate::piece::Target;
 use crate::piece::fill_length;
 use crate::piece::piece_at;
 use crate::piece::put_length;
-use memory_map::answer::CUT_SHORT;
-use memory_map::answer::PLAN_MALFORMED;
-use memory_map::answer::Refusal;
+use outcome::answer::CUT_SHORT;
+use outcome::answer::Refusal;
 
 // The number of pieces, the sum of the put lengths and that of the fill lengths; or the refusal.
 pub enum Answer {

@@ -9,8 +9,8 @@ use Rattle.words.specs.Choice.{if_then_else_}
 use Rattle.words.specs.Store.{store}
 use Rattle.memory_map.specs.declared.region.Right.the-variants.{Read, Write}
 use Rattle.memory_map.specs.declared.map.Map.{Map}
-use Rattle.memory_map.specs.Outcome as outcome
-use Rattle.memory_map.specs.Outcome.{Kind, Outcome, Loaded}
+use Rattle.outcome.specs.Outcome as outcome
+use Rattle.outcome.specs.Outcome.{Kind, Outcome, Loaded}
 use Rattle.memory_map.specs.Map.{sound}
 use Rattle.memory_map.specs.Lookup as map
 use Rattle.memory_map.specs.Lookup.{Lookup, Found, lookup}

@@ -1,5 +1,5 @@
 -- What the cases of the code's answer say, in the terms of paper 01.
-use Rattle.memory_map.specs.Outcome.{kindOf, addressOf}
+use Rattle.outcome.specs.Outcome.{kindOf, addressOf}
 use Rattle.scp.specs.declared.answer.Reply as code
 use Rattle.scp.specs.declared.answer.Reply.the-variants.{Refused, Silent, Response, Run, Load}
 use Rattle.scp.specs.declared.packet.Transfer as code-transfer

@@ -5,7 +5,7 @@ use mathlib.Core.List.{List, [], _∷_, _++_}
 use Prim.Native.Nat.{ℕ}
 use lib.ListN.{length, take, replicate}
 use Rattle.words.specs.Bytes.{littleEndian}
-use Rattle.memory_map.specs.Outcome.{arm, thumb}
+use Rattle.outcome.specs.Outcome.{arm, thumb}
 use Rattle.memory_map.specs.Lookup.{Lookup, lookupIn}
 use Rattle.scp.specs.declared.answer.Identity.{Identity}
 use Rattle.scp.specs.Packet.{version}

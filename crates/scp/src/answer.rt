@@ -6,11 +6,11 @@ ghost use lib.ListN.{length};
 ghost use Rattle.memory_map.specs.Map.{sound};
 ghost use Rattle.scp.specs.Answer.{answered, command, scpAnswer};
 ghost use Rattle.scp.specs.Code.{replyOf};
-use memory_map::answer::Entry;
-use memory_map::answer::MAP_NOT_SOUND;
-use memory_map::answer::OUTPUT_TOO_SMALL;
-use memory_map::answer::Refusal;
 use memory_map::map::Map;
+use memory_map::refusal::MAP_NOT_SOUND;
+use outcome::answer::Entry;
+use outcome::answer::OUTPUT_TOO_SMALL;
+use outcome::answer::Refusal;
 
 // What a VER packet is told.
 pub struct Identity {

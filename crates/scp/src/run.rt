@@ -4,14 +4,14 @@ ghost use mathlib.Core.List.{List};
 ghost use Prim.Native.Nat.{ℕ, _≤_};
 ghost use lib.ListN.{length};
 ghost use Rattle.memory_map.specs.Lookup.{lookup};
-ghost use Rattle.memory_map.specs.Outcome.{outcomeOf};
+ghost use Rattle.outcome.specs.Outcome.{outcomeOf};
 ghost use Rattle.scp.specs.Answer.{runPacket, loadReaction, loadPacket, answered};
 ghost use Rattle.scp.specs.Code.{replyOf};
 use crate::answer::Reply;
-use memory_map::answer::Answer;
-use memory_map::answer::Stop;
 use memory_map::map::Map;
 use memory_map::map::RunEntry;
+use outcome::answer::Answer;
+use outcome::answer::Stop;
 use words::read::le_word_at;
 
 // A RUN packet. It changes no memory.

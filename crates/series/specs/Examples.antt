@@ -4,8 +4,8 @@ use mathlib.Core.Bool.{true}
 use mathlib.Core.List.{List, [], _∷_}
 use Prim.Native.Nat.{ℕ}
 use lib.ListN.{set, drop, replicate}
-use Rattle.memory_map.specs.Outcome as outcome
-use Rattle.memory_map.specs.Outcome.{end, thumb, Ending, stops, refuses}
+use Rattle.outcome.specs.Outcome as outcome
+use Rattle.outcome.specs.Outcome.{end, thumb, Ending, stops, refuses}
 use Rattle.memory_map.specs.Lookup.{Lookup, lookupIn}
 use Rattle.plan.specs.Plan.{Piece, put, fill, run}
 use Rattle.plan.specs.Meaning.{stretch, finish}

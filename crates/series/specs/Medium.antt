@@ -8,8 +8,8 @@ use Rattle.words.specs.Choice.{All}
 use Rattle.words.specs.Range.{meets}
 use Rattle.memory_map.specs.declared.region.Right.the-variants.{Read}
 use Rattle.memory_map.specs.declared.map.Map.{Map}
-use Rattle.memory_map.specs.Outcome as outcome
-use Rattle.memory_map.specs.Outcome.{end, Ending, stops, refuses}
+use Rattle.outcome.specs.Outcome as outcome
+use Rattle.outcome.specs.Outcome.{end, Ending, stops, refuses}
 use Rattle.memory_map.specs.Lookup.{at, lookup}
 use Rattle.memory_map.specs.Entry.{kindAt}
 use Rattle.plan.specs.Plan.{Piece, put, fill, run}

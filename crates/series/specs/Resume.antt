@@ -1,7 +1,7 @@
 -- A load, and again from where it says, until it no longer stops at a run (paper 01, "Plans").
 use mathlib.Core.List.{List}
 use Prim.Native.Nat.{ℕ, zero, suc}
-use Rattle.memory_map.specs.Outcome.{end, unknown, run, Ending, stops, refuses}
+use Rattle.outcome.specs.Outcome.{end, unknown, run, Ending, stops, refuses}
 use Rattle.series.specs.Series.{Left}
 
 -- what is done after a load that left l: a run names where to go on

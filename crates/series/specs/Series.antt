@@ -3,7 +3,7 @@ pub mod Laws
 use mathlib.Core.List.{List, [], _∷_}
 use Prim.Native.Nat.{ℕ}
 use lib.ListN.{set}
-use Rattle.memory_map.specs.Outcome.{Ending}
+use Rattle.outcome.specs.Outcome.{Ending}
 
 -- a byte that the called code writes, at a place of the buffer
 pub record Change : Type 0 where

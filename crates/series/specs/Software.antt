@@ -2,7 +2,7 @@
 use mathlib.Core.List.{List}
 use Prim.Native.Nat.{ℕ}
 use Rattle.memory_map.specs.declared.map.Map.{Map}
-use Rattle.memory_map.specs.Outcome.{endingOf, Loaded}
+use Rattle.outcome.specs.Outcome.{endingOf, Loaded}
 use Rattle.srom.specs.Load.{sromLoad}
 use Rattle.aplx.specs.Load.{aplxLoad}
 use Rattle.plan.specs.Packed.{Packed}

@@ -8,7 +8,7 @@ use lib.ListN.{length, take, drop, length-take, length-drop}
 use Rattle.words.specs.Store.{store}
 use Rattle.words.specs.Swap.{swapWords}
 use Rattle.words.specs.Swap.Laws.{length-swap}
-use Rattle.memory_map.specs.Outcome.{Outcome, Ending, outcomeAt}
+use Rattle.outcome.specs.Outcome.{Outcome, Ending, outcomeAt}
 use Rattle.memory_map.specs.Lookup.{Lookup}
 use Rattle.srom.specs.Walk.{Block, block, halt, itemAt, Walk, walk, padsEnd}
 use Rattle.srom.specs.Walk.Laws.{BlockFacts, block-facts, walk-block, walk-halt, walk-pads, pads-low}

@@ -7,7 +7,7 @@ use lib.ListN.{length}
 use Rattle.words.specs.Choice.{if_then_else_}
 use Rattle.words.specs.Store.{store}
 use Rattle.memory_map.specs.declared.map.Map.{Map}
-use Rattle.memory_map.specs.Outcome.{Outcome, refuses, outcomeAt, memoryAt, Loaded}
+use Rattle.outcome.specs.Outcome.{Outcome, refuses, outcomeAt, memoryAt, Loaded}
 use Rattle.memory_map.specs.Map.{sound}
 use Rattle.memory_map.specs.Lookup.{Lookup, lookup}
 use Rattle.srom.specs.Walk.{Block, Walk, walk}

@@ -10,7 +10,7 @@ use Rattle.words.specs.Choice.{if_then_else_}
 use Rattle.words.specs.Bytes.{bigEndianAt}
 use Rattle.words.specs.Swap.{swapWords}
 use Rattle.memory_map.specs.declared.region.Right.the-variants.{Write}
-use Rattle.memory_map.specs.Outcome.{end, run, Ending, stops, refuses}
+use Rattle.outcome.specs.Outcome.{end, run, Ending, stops, refuses}
 use Rattle.memory_map.specs.Lookup as map
 use Rattle.memory_map.specs.Lookup.{Lookup, Found}
 use Rattle.memory_map.specs.Entry as entry

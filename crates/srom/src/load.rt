@@ -1,13 +1,15 @@
 // The load of a serial ROM.
 ghost use mathlib.Core.Path.{_≡_};
 ghost use lib.ListN.{length};
-ghost use Rattle.memory_map.specs.Outcome.{outcomeOf};
+ghost use Rattle.outcome.specs.Outcome.{outcomeOf};
 ghost use Rattle.srom.specs.Load.{sromLook, outcomeOfWalk, sromLoad};
-use memory_map::answer::Answer;
-use memory_map::answer::MAP_NOT_SOUND;
-use memory_map::answer::Refusal;
-use memory_map::answer::SROM_TOO_LONG;
 use memory_map::map::Map;
+use memory_map::refusal::MAP_NOT_SOUND;
+use outcome::answer::Answer;
+use outcome::answer::Refusal;
+
+// The refusal of a slice over 16,777,216 bytes.
+const SROM_TOO_LONG: u32 = 13;
 
 // The whole answer of a load into a memory of so many bytes. Nothing is stored.
 fn look(map: Map, size: usize, rom: &[u8], offset: usize) -> Answer

@@ -3,21 +3,21 @@ ghost use mathlib.Core.Path.{_≡_};
 ghost use mathlib.Core.List.{List};
 ghost use Prim.Native.Nat.{ℕ, _+_, _≤_, _<_};
 ghost use lib.ListN.{length, getD};
-ghost use Rattle.memory_map.specs.Outcome.{outcomeOf};
+ghost use Rattle.outcome.specs.Outcome.{outcomeOf};
 ghost use Rattle.memory_map.specs.Lookup.{lookup};
 ghost use Rattle.memory_map.specs.Entry.{runEntry};
 ghost use Rattle.srom.specs.Walk.{runOf, dataBlock, blockAt, itemAt, walk, padsEnd};
 ghost use Rattle.srom.specs.Load.{outcomeOfWalk};
 ghost use Rattle.srom.specs.Code.{itemOf};
-use memory_map::answer::Answer;
-use memory_map::answer::CUT_SHORT;
-use memory_map::answer::NOT_ALIGNED;
-use memory_map::answer::Refusal;
-use memory_map::answer::Stop;
 use memory_map::map::Found;
 use memory_map::map::Map;
 use memory_map::map::RunEntry;
 use memory_map::region::Right;
+use outcome::answer::Answer;
+use outcome::answer::CUT_SHORT;
+use outcome::answer::NOT_ALIGNED;
+use outcome::answer::Refusal;
+use outcome::answer::Stop;
 
 const PAD: u8 = 0x55;
 

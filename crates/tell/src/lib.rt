@@ -1,13 +1,13 @@
 // Answers as lines of text on standard output, for the programs of cases. No function answers or changes anything.
 use libc::STDOUT_FILENO;
-use memory_map::answer::Answer;
-use memory_map::answer::Entry;
-use memory_map::answer::Refusal;
-use memory_map::answer::Stop;
 use memory_map::map::Found;
 use memory_map::map::Map;
 use memory_map::map::RunEntry;
 use memory_map::map::Verdict;
+use outcome::answer::Answer;
+use outcome::answer::Entry;
+use outcome::answer::Refusal;
+use outcome::answer::Stop;
 use plan::packed;
 use plan::read;
 use scp::answer::Reply;

@@ -8,7 +8,7 @@ use Rattle.words.specs.Bytes.{littleEndian}
 use Rattle.words.specs.Store.{store}
 use Rattle.memory_map.specs.declared.region.Right.the-variants.{Read}
 use Rattle.memory_map.specs.declared.map.Map.{Map}
-use Rattle.memory_map.specs.Outcome.{Loaded}
+use Rattle.outcome.specs.Outcome.{Loaded}
 use Rattle.memory_map.specs.Map.{emptyMap, add}
 use Rattle.memory_map.specs.Lookup as map
 use Rattle.memory_map.specs.Lookup.{Found, lookup}

@@ -8,7 +8,7 @@ use Prim.Native.Nat.{ℕ}
 use lib.ListN.{length, replicate}
 use Rattle.words.specs.Bytes.{fromLittleEndian}
 use Rattle.memory_map.specs.declared.map.Map.{Map}
-use Rattle.memory_map.specs.Outcome.{refused, accepted, end}
+use Rattle.outcome.specs.Outcome.{refused, accepted, end}
 use Rattle.memory_map.specs.Map.{sound}
 use Rattle.srom.specs.Load.{sromLoad}
 use Rattle.scp.specs.declared.answer.Identity.{Identity}

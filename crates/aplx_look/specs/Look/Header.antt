@@ -8,10 +8,10 @@ use native.Mathlib.Numerals.{add-one}
 use native.Mathlib.Omega.{arith}
 use Rattle.words.specs.Choice.{if_then_else_}
 use Rattle.memory_map.specs.declared.region.Right.the-variants.{Read}
-use Rattle.memory_map.specs.Outcome.{Stop, Ending, stops, refuses}
-use Rattle.memory_map.specs.Lookup.{Lookup}
+use Rattle.outcome.specs.Outcome.{Stop, Ending, stops, refuses}
+use Rattle.memory_map.specs.Lookup.{Lookup, placeOf}
 use Rattle.aplx_look.specs.Command.{Command, commandAt}
-use Rattle.aplx_look.specs.Walk.{placeOf, commands}
+use Rattle.aplx_look.specs.Walk.{commands}
 use Rattle.aplx_look.specs.Walk.Laws.{commands-next, commands-end}
 use Rattle.aplx_look.specs.Look.{meetsHeader, headerTest, bytesOf, bytesIn}
 

@@ -13,13 +13,13 @@ use Rattle.words.specs.Round.Laws.{round-multiple}
 use Rattle.words.specs.Bytes.{littleEndianAt}
 use Rattle.memory_map.specs.declared.region.Right.the-variants.{Read, Write}
 use Rattle.memory_map.specs.declared.map.Map.{Map}
-use Rattle.memory_map.specs.Outcome.{Stop, Ending, stops, refuses, accepted, outcomeAt}
+use Rattle.outcome.specs.Outcome.{Stop, Ending, stops, refuses, accepted, outcomeAt}
 use Rattle.memory_map.specs.Map.{sound}
-use Rattle.memory_map.specs.Lookup.{Lookup, Found, at, refused, found, lookup}
-use Rattle.memory_map.specs.Lookup.Laws.{Lawful}
+use Rattle.memory_map.specs.Lookup.{Lookup, Found, at, refused, found, lookup, placeOf}
+use Rattle.memory_map.specs.Lookup.Laws.{Lawful, found-at}
 use Rattle.aplx_look.specs.Command.{Command, copy, fill, exec, other, commandOf, commandAt}
-use Rattle.aplx_look.specs.Walk.{Verdict, goes, halts, permitted, tests, walk, placeOf, commands}
-use Rattle.aplx_look.specs.Walk.Laws.{Passed, found-at, walk-passed, length-commands}
+use Rattle.aplx_look.specs.Walk.{Verdict, goes, halts, permitted, tests, walk, commands}
+use Rattle.aplx_look.specs.Walk.Laws.{Passed, walk-passed, length-commands}
 use Rattle.aplx_look.specs.Look.Header.{same-stop, clear-from}
 use Rattle.aplx_look.specs.Look.{meetsHeader, headerTest, tested, bytesOf, bytesIn, lookOf, look, aplxLook, outcomeOfLook}
 

@@ -1,38 +1,22 @@
 -- Laws of the walk over the entries.
-use mathlib.Core.Path.{_≡_, refl, ap, sym}
-use mathlib.Core.Bool.{true}
+use mathlib.Core.Path.{_≡_, refl, ap}
 use mathlib.Core.List.{List, [], _∷_}
 use Prim.Native.Nat.{ℕ, zero, suc, _+_, _-_, _*_, _≤_, _<_}
 use native.Mathlib.Nat.{zero-add, add-zero}
 use native.Mathlib.Numerals.{add-one}
 use native.Mathlib.Omega.{arith}
 use lib.ListN.{length}
-use Rattle.words.specs.Choice.Laws.{true-is-false}
-use Rattle.memory_map.specs.declared.region.Right.{Right}
 use Rattle.memory_map.specs.declared.region.Right.the-variants.{Read}
-use Rattle.memory_map.specs.Outcome.{Stop, Ending, stops, refuses}
-use Rattle.memory_map.specs.Lookup.{Lookup, Found, at, refused, found}
-use Rattle.memory_map.specs.Lookup.Laws.{Lawful}
+use Rattle.outcome.specs.Outcome.{Stop, Ending, stops, refuses}
+use Rattle.memory_map.specs.Lookup.{Lookup, Found, at, refused, placeOf}
 use Rattle.aplx_look.specs.Command.{commandAt}
-use Rattle.aplx_look.specs.Walk.{Verdict, goes, halts, tests, judgeAt, judge, after, walkFor, walk, placeOf, commands}
+use Rattle.aplx_look.specs.Walk.{Verdict, goes, halts, tests, judgeAt, judge, after, walkFor, walk, commands}
 
 -- k entries from address h on passed their tests
 abbrev pub Passed : Lookup → List ℕ → ℕ → ℕ → Type 0
 Passed find m h k = (j : ℕ) → j < k → judge find m (h + 16 * j) j ≡ goes
 
 -- ---- one entry
-pub found-place : {f : Found} {p : ℕ} → f ≡ at p → placeOf f ≡ p
-found-place e = ap placeOf e
-
-pub found-at : (f : Found) → found f ≡ true → f ≡ at (placeOf f)
-found-at (at p) e = refl
-found-at (refused x) e = true-is-false (sym e)
-
--- a range that is permitted lies in memory
-pub range-inside :
-    {find : Lookup} {l : ℕ} → Lawful find l → (r : Right) (a n : ℕ) {p : ℕ} → p ≡ placeOf (find r a n) → found (find r a n) ≡ true → p + n ≤ l
-range-inside {find} laws r a n e f = rw e (laws .inside r a n _ (found-at (find r a n) f))
-
 -- an entry that passed its tests: where it stands
 pub record Entry (find : Lookup) (m : List ℕ) (a i : ℕ) : Type 0 where
   pub place : ℕ

@@ -2,7 +2,7 @@
 use mathlib.Core.Path.{_≡_, refl, ap, _∙_}
 use mathlib.Core.List.{List}
 use Prim.Native.Nat.{ℕ}
-use Rattle.memory_map.specs.Outcome.{Outcome, Stop, accepted, end, unknown, run, Loaded}
+use Rattle.outcome.specs.Outcome.{Outcome, Stop, accepted, end, unknown, run, Loaded}
 use Rattle.scp.specs.Answer.{Reply, Answered}
 use Rattle.c_api.specs.Numbers.{first, loadNumbers, replyNumbers}
 

@@ -16,7 +16,7 @@ use Rattle.memory_map.specs.Region.{permits, placeIn, endsInside}
 use Rattle.memory_map.specs.Region.Laws.{Permits, Clear, permits-facts, facts-permits, ends-facts}
 use Rattle.memory_map.specs.Map.{regionsOf, allKeepRules, sound}
 use Rattle.memory_map.specs.Map.Laws.{In, first, later, every-in, rules, in-kept, behind-clear, same-or-clear, sound-facts}
-use Rattle.memory_map.specs.Lookup.{at, refused, Lookup, lookupIn, lookup}
+use Rattle.memory_map.specs.Lookup.{Found, at, refused, Lookup, found, placeOf, lookupIn, lookup}
 
 -- ---- lookup in a list of regions
 -- the region of a found range
@@ -143,6 +143,19 @@ lawful m n e =
       distinct = λ r t a k p b j q x y f g u v. found-distinct (s .keep) (lookup-region m r a k f) (lookup-region m t b j g) u v;
       number = λ r a k x f. lookup-number m r a k f;
     }
+
+-- the place of a range that was found
+pub found-place : {f : Found} {p : ℕ} → f ≡ at p → placeOf f ≡ p
+found-place e = ap placeOf e
+
+pub found-at : (f : Found) → found f ≡ true → f ≡ at (placeOf f)
+found-at (at p) e = refl
+found-at (refused x) e = true-is-false (sym e)
+
+-- a range that is permitted lies in memory
+pub range-inside :
+    {find : Lookup} {l : ℕ} → Lawful find l → (r : Right) (a n : ℕ) {p : ℕ} → p ≡ placeOf (find r a n) → found (find r a n) ≡ true → p + n ≤ l
+range-inside {find} laws r a n e f = rw e (laws .inside r a n _ (found-at (find r a n) f))
 
 -- ranges that share no address share no buffer byte
 pub apart :

@@ -18,8 +18,8 @@ use Rattle.words.specs.Swap.{swapWords}
 use Rattle.words.specs.Swap.Laws.{swap-swap, length-swap}
 use Rattle.memory_map.specs.declared.region.Right.the-variants.{Write}
 use Rattle.memory_map.specs.declared.map.Map.{Map}
-use Rattle.memory_map.specs.Outcome.{end, stops, memoryAt}
-use Rattle.memory_map.specs.Outcome.Laws.{ending-at}
+use Rattle.outcome.specs.Outcome.{end, stops, memoryAt}
+use Rattle.outcome.specs.Outcome.Laws.{ending-at}
 use Rattle.memory_map.specs.Map.{sound}
 use Rattle.memory_map.specs.Lookup as map
 use Rattle.memory_map.specs.Lookup.{Lookup, Found, lookup}

@@ -10,15 +10,15 @@ use Rattle.words.specs.Range.Laws.{apart-part, misses-part}
 use Rattle.words.specs.Repeat.Laws.{filling-whole}
 use Rattle.words.specs.Store.{store}
 use Rattle.memory_map.specs.declared.region.Right.the-variants.{Read, Write}
-use Rattle.memory_map.specs.Outcome.{Ending}
-use Rattle.memory_map.specs.Lookup.{Lookup, Found, at, refused}
+use Rattle.outcome.specs.Outcome.{Ending}
+use Rattle.memory_map.specs.Lookup.{Lookup, Found, at, refused, placeOf}
 use Rattle.memory_map.specs.Lookup.Laws.{Lawful}
 use Rattle.plan.specs.Plan.{Piece, put, fill, run}
 use Rattle.plan.specs.Plan.Laws.{Packable}
 use Rattle.plan.specs.Meaning.{Permit, allowed, denied, ranged, permit, effect, effects, stretch, Finish, ends, runs, denies, or-deny, finish}
 use Rattle.aplx_copy.specs.Copy.Laws.{copied-apart}
 use Rattle.aplx_look.specs.Command.{Command}
-use Rattle.aplx_look.specs.Walk.{placeOf, commands}
+use Rattle.aplx_look.specs.Walk.{commands}
 use Rattle.aplx_look.specs.Look.{meetsHeader, headerTest}
 use Rattle.aplx.specs.Load.{perform, performAll}
 use Rattle.series.specs.Medium.{Misses}

@@ -9,8 +9,8 @@ use lib.Seq.{drop-drop, drop-at, take-at, drop-append-add}
 use Rattle.words.specs.Choice.{All}
 use Rattle.words.specs.Choice.Laws.{all-drop, all-take}
 use Rattle.memory_map.specs.declared.map.Map.{Map}
-use Rattle.memory_map.specs.Outcome as outcome
-use Rattle.memory_map.specs.Outcome.{Kind, end, stops}
+use Rattle.outcome.specs.Outcome as outcome
+use Rattle.outcome.specs.Outcome.{Kind, end, stops}
 use Rattle.memory_map.specs.Lookup.{lookup}
 use Rattle.memory_map.specs.Lookup.Laws.{lawful}
 use Rattle.plan.specs.Plan.{Piece, put, fill, run}

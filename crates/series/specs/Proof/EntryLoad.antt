@@ -10,8 +10,8 @@ use borrow.Author.Tests.{eq-eqb}
 use Rattle.words.specs.Choice.{All}
 use Rattle.words.specs.Choice.Laws.{all-drop}
 use Rattle.memory_map.specs.declared.map.Map.{Map}
-use Rattle.memory_map.specs.Outcome.{Stop, Ending, stops, endingOf, memoryAt}
-use Rattle.memory_map.specs.Outcome.Laws.{ending-at}
+use Rattle.outcome.specs.Outcome.{Stop, Ending, stops, endingOf, memoryAt}
+use Rattle.outcome.specs.Outcome.Laws.{ending-at}
 use Rattle.memory_map.specs.Map.{sound}
 use Rattle.memory_map.specs.Lookup.{Lookup, lookup}
 use Rattle.memory_map.specs.Lookup.Laws.{lawful}

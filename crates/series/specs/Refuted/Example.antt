@@ -13,7 +13,7 @@ use Rattle.words.specs.Bytes.{Bytes}
 use Rattle.memory_map.specs.declared.region.Region.{Region}
 use Rattle.memory_map.specs.declared.region.Right.the-variants.{Read}
 use Rattle.memory_map.specs.declared.map.Map.{Map}
-use Rattle.memory_map.specs.Outcome.{Loaded}
+use Rattle.outcome.specs.Outcome.{Loaded}
 use Rattle.memory_map.specs.Map.{sound, emptyMap, add}
 use Rattle.memory_map.specs.Lookup.{at, Lookup, lookupIn, lookup}
 use Rattle.memory_map.specs.Lookup.Laws.{lookup-is}

@@ -5,7 +5,7 @@ use mathlib.Core.List.{List}
 use Prim.Native.Nat.{ℕ}
 use native.Mathlib.Omega.{arith}
 use lib.ListN.{take}
-use Rattle.memory_map.specs.Outcome.{end, refused, accepted, memoryAt, Loaded}
+use Rattle.outcome.specs.Outcome.{end, refused, accepted, memoryAt, Loaded}
 use Rattle.memory_map.specs.Lookup.{Lookup}
 use Rattle.srom.specs.Walk.{Walk}
 use Rattle.srom.specs.Load as srom-load

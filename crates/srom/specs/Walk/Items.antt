@@ -8,7 +8,7 @@ use borrow.Author.Tests.{le-leb, lt-leb, le-ltb, eq-eqb, ne-eqb}
 use Rattle.words.specs.Bytes.{bigEndianAt}
 use Rattle.words.specs.Swap.{swapWords}
 use Rattle.memory_map.specs.declared.region.Right.the-variants.{Write}
-use Rattle.memory_map.specs.Outcome.{end, stops, refuses}
+use Rattle.outcome.specs.Outcome.{end, stops, refuses}
 use Rattle.memory_map.specs.Lookup.{Lookup}
 use Rattle.memory_map.specs.Entry.{runEntry}
 use Rattle.srom.specs.Walk.{pad, halt, placed, dataBlock, runOf, blockAt, itemAt}

@@ -18,7 +18,7 @@ use Rattle.memory_map.specs.Lookup as map
 use Rattle.memory_map.specs.Lookup.{Lookup, Found}
 use Rattle.memory_map.specs.Entry as entry
 use Rattle.memory_map.specs.Entry.{RunEntry, runEntry}
-use Rattle.memory_map.specs.Outcome.{Ending}
+use Rattle.outcome.specs.Outcome.{Ending}
 use Rattle.srom.specs.Walk.{Block, Item, pad, block, halt, placed, dataBlock, runOf, blockAt, itemAt, after, walkFor, walk, leadingPads, padsEnd}
 use Rattle.srom.specs.Walk.Items.{at-pad}
 

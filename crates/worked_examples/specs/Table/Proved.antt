@@ -11,7 +11,7 @@ use Rattle.words.specs.Four.{fourBytes}
 use Rattle.words.specs.Open as words-group
 use Rattle.memory_map.specs.declared.region.Right.the-variants.{Read}
 use Rattle.memory_map.specs.declared.map.Map.{Map}
-use Rattle.memory_map.specs.Outcome.{Loaded}
+use Rattle.outcome.specs.Outcome.{Loaded}
 use Rattle.memory_map.specs.Map.{sound}
 use Rattle.memory_map.specs.Lookup.{Lookup, lookupIn, lookup}
 use Rattle.memory_map.specs.Lookup.Laws.{lookup-is}

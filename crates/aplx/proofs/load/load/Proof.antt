@@ -2,8 +2,8 @@
 use borrow.Author.Needs.{needs}
 use mathlib.Core.Path.{ap, sym, _∙_}
 use lib.ListN.{length}
-use Rattle.memory_map.specs.Outcome.{outcomeOf}
-use Rattle.memory_map.specs.Outcome.Laws.{refused-keeps, accepted-leaves}
+use Rattle.outcome.specs.Outcome.{outcomeOf}
+use Rattle.outcome.specs.Outcome.Laws.{refused-keeps, accepted-leaves}
 use Rattle.memory_map.specs.Lookup.{lookup}
 use Rattle.aplx_look.specs.Look.{bytesIn, aplxLook}
 use Rattle.aplx_look.specs.Look.Laws.{Accepted, accepted-look}

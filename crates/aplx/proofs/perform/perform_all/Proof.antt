@@ -5,9 +5,8 @@ use native.Mathlib.Omega.{arith}
 use lib.ListN.{length}
 use borrow.Author.Needs.{needs}
 use Rattle.memory_map.specs.declared.region.Right.the-variants.{Read}
-use Rattle.memory_map.specs.Lookup.{lookup}
+use Rattle.memory_map.specs.Lookup.{lookup, placeOf}
 use Rattle.memory_map.specs.Lookup.Laws.{lawful}
-use Rattle.aplx_look.specs.Walk.{placeOf}
 use Rattle.aplx_look.specs.Code.{commandIs}
 use Rattle.aplx.proofs.Storing.{entryAt, Progress, start, finished, Next, next}
 use Rattle.aplx.proofs.perform.perform_all.Statement.{statement}

@@ -7,11 +7,9 @@ use borrow.Author.Needs.{needs}
 use Rattle.words.specs.Repeat.Laws.{filling-whole, fill-part}
 use Rattle.words.specs.Store.{store}
 use Rattle.memory_map.specs.declared.region.Right.the-variants.{Read, Write}
-use Rattle.memory_map.specs.Lookup.{lookup}
-use Rattle.memory_map.specs.Lookup.Laws.{lawful}
+use Rattle.memory_map.specs.Lookup.{lookup, placeOf}
+use Rattle.memory_map.specs.Lookup.Laws.{lawful, range-inside}
 use Rattle.aplx_copy.specs.Copy.Laws.{copied-fits}
-use Rattle.aplx_look.specs.Walk.{placeOf}
-use Rattle.aplx_look.specs.Walk.Laws.{range-inside}
 use Rattle.aplx.specs.Load.{perform}
 use Rattle.aplx.proofs.perform.perform_command.Statement.{statement}
 use Rattle.aplx.proofs.perform.perform_command.Tie as tie

@@ -8,12 +8,12 @@ use native.Mathlib.Omega.{arith}
 use lib.ListN.{length}
 use Rattle.memory_map.specs.declared.region.Right.the-variants.{Read}
 use Rattle.memory_map.specs.declared.map.Map.{Map}
-use Rattle.memory_map.specs.Outcome.{Ending}
-use Rattle.memory_map.specs.Lookup.{lookup}
-use Rattle.memory_map.specs.Lookup.Laws.{lawful}
+use Rattle.outcome.specs.Outcome.{Ending}
+use Rattle.memory_map.specs.Lookup.{lookup, placeOf}
+use Rattle.memory_map.specs.Lookup.Laws.{lawful, found-place}
 use Rattle.aplx_look.specs.Command.{Command, commandAt}
-use Rattle.aplx_look.specs.Walk.{placeOf, commands}
-use Rattle.aplx_look.specs.Walk.Laws.{Entry, goes-found, found-place}
+use Rattle.aplx_look.specs.Walk.{commands}
+use Rattle.aplx_look.specs.Walk.Laws.{Entry, goes-found}
 use Rattle.aplx_look.specs.Look.{meetsHeader, headerTest, bytesOf, bytesIn}
 use Rattle.aplx_look.specs.Look.Header.{header-met, header-on, header-end, bytes-on, bytes-end}
 use Rattle.aplx_look.specs.Look.Laws.{goes-bytes}

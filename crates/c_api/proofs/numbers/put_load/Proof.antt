@@ -1,7 +1,7 @@
 -- `c_api::numbers::put_load` meets its contract: the row of a refusal, or of a stop, whose first number is 0.
 use borrow.Author.Needs.{needs}
 use mathlib.Core.Path.{sym}
-use Rattle.memory_map.specs.Outcome.{stopOf}
+use Rattle.outcome.specs.Outcome.{stopOf}
 use Rattle.c_api.specs.Numbers.Laws.{accepted-zero}
 use Rattle.c_api.proofs.numbers.put_load.Statement.{statement}
 use Rattle.c_api.proofs.numbers.put_load.Tie as tie

@@ -2,10 +2,10 @@
 use borrow.Author.Needs.{needs}
 use mathlib.Core.Path.{ap, sym, _∙_}
 use lib.ListN.{length}
-use Rattle.memory_map.specs.Outcome.Laws.{refused-keeps, accepted-leaves}
+use Rattle.outcome.specs.Outcome.Laws.{refused-keeps, accepted-leaves}
 use Rattle.srom.specs.Load.Laws.{Accepted, accepted-look}
 use Rattle.srom.specs.Load.{bytesIn, sromLook, storeBlocks, sromLoad}
-use Rattle.memory_map.specs.Outcome.{outcomeOf}
+use Rattle.outcome.specs.Outcome.{outcomeOf}
 use Rattle.srom.proofs.load.load.Statement.{statement}
 use Rattle.srom.proofs.load.load.Tie as tie
 

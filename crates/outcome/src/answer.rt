@@ -1,31 +1,13 @@
 // Refusals, stops, and what a load answers.
 
-// The numbers of the refusals.
-pub const MAP_NOT_SOUND: u32 = 1;
-
+// The numbers of refusals that more than one part of the software gives. Any other number stands in the crate that gives it.
 pub const CUT_SHORT: u32 = 2;
 
 pub const NOT_ALIGNED: u32 = 3;
 
-pub const NOT_PERMITTED: u32 = 4;
-
 pub const ZERO_LENGTH: u32 = 5;
 
-pub const ENTRY_NOT_READABLE: u32 = 6;
-
-pub const NO_STOP: u32 = 7;
-
-pub const MEETS_HEADER: u32 = 8;
-
-pub const RUN_NOT_LEGAL: u32 = 9;
-
 pub const OUTPUT_TOO_SMALL: u32 = 10;
-
-pub const PLAN_MALFORMED: u32 = 11;
-
-pub const LENGTH_NOT_EXPRESSIBLE: u32 = 12;
-
-pub const SROM_TOO_LONG: u32 = 13;
 
 // A refusal: its number, and the place of its cause.
 pub struct Refusal {

@@ -3,12 +3,12 @@
 pub mod Laws
 use mathlib.Core.List.{List}
 use Prim.Native.Nat.{ℕ}
-use Rattle.memory_map.specs.declared.answer.Entry.{Entry}
-use Rattle.memory_map.specs.declared.answer.Entry.the-variants.{Arm, Thumb}
-use Rattle.memory_map.specs.declared.answer.Stop as code-stop
-use Rattle.memory_map.specs.declared.answer.Stop.the-variants.{End, Unknown, Run}
-use Rattle.memory_map.specs.declared.answer.Answer.{Answer}
-use Rattle.memory_map.specs.declared.answer.Answer.the-variants.{Refused, Accepted}
+use Rattle.outcome.specs.declared.answer.Entry.{Entry}
+use Rattle.outcome.specs.declared.answer.Entry.the-variants.{Arm, Thumb}
+use Rattle.outcome.specs.declared.answer.Stop as code-stop
+use Rattle.outcome.specs.declared.answer.Stop.the-variants.{End, Unknown, Run}
+use Rattle.outcome.specs.declared.answer.Answer.{Answer}
+use Rattle.outcome.specs.declared.answer.Answer.the-variants.{Refused, Accepted}
 
 -- the kind of a run's entry
 pub data Kind : Type 0 where
