@@ -3,7 +3,7 @@ use mathlib.Core.Path.{_≡_, refl}
 use mathlib.Core.List.{List, [], _∷_, _++_}
 use Prim.Native.Nat.{ℕ}
 use lib.ListN.{take, drop}
-use Rattle.words.specs.Repeat.{repeated}
+use Rattle.word_blocks.specs.Repeat.{repeated}
 use Rattle.outcome.specs.Outcome.{refused, accepted, end}
 use Rattle.aplx_look.specs.Examples.{find, entry, last, memory}
 use Rattle.aplx.specs.Load.{loadWith}

@@ -3,7 +3,7 @@ pub mod Laws
 pub mod Kept
 use mathlib.Core.List.{List, [], _∷_}
 use Prim.Native.Nat.{ℕ, _/_}
-use Rattle.words.specs.Repeat.{repeated}
+use Rattle.word_blocks.specs.Repeat.{repeated}
 use Rattle.words.specs.Store.{store}
 use Rattle.memory_map.specs.declared.region.Right.the-variants.{Read, Write}
 use Rattle.memory_map.specs.declared.map.Map.{Map}

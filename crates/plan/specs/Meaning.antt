@@ -3,7 +3,7 @@ pub mod Laws
 use mathlib.Core.List.{List, [], _∷_}
 use Prim.Native.Nat.{ℕ, suc}
 use lib.ListN.{length, drop}
-use Rattle.words.specs.Repeat.{filling}
+use Rattle.word_blocks.specs.Repeat.{filling}
 use Rattle.words.specs.Store.{store}
 use Rattle.memory_map.specs.declared.region.Right.the-variants.{Write}
 use Rattle.memory_map.specs.Lookup as map

@@ -6,8 +6,8 @@ use native.Mathlib.Nat.{zero-add, add-zero}
 use native.Mathlib.Omega.{arith}
 use lib.ListN.{length, take, drop, length-take, length-drop}
 use Rattle.words.specs.Store.{store}
-use Rattle.words.specs.Swap.{swapWords}
-use Rattle.words.specs.Swap.Laws.{length-swap}
+use Rattle.word_blocks.specs.Swap.{swapWords}
+use Rattle.word_blocks.specs.Swap.Laws.{length-swap}
 use Rattle.outcome.specs.Outcome.{Outcome, Ending, outcomeAt}
 use Rattle.memory_map.specs.Lookup.{Lookup}
 use Rattle.srom.specs.Walk.{Block, block, halt, itemAt, Walk, walk, padsEnd}

@@ -2,7 +2,7 @@
 use mathlib.Core.List.{List}
 use Prim.Native.Nat.{ℕ, _-_}
 use lib.ListN.{take, drop}
-use Rattle.words.specs.Swap.{swapWords}
+use Rattle.word_blocks.specs.Swap.{swapWords}
 use Rattle.outcome.specs.Outcome.{stopOf, stops, refuses}
 use Rattle.srom.specs.declared.walk.Item as code
 use Rattle.srom.specs.declared.walk.Item.the-variants.{Block, Halt, Refused}

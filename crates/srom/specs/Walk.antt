@@ -8,7 +8,7 @@ use lib.Dec.{leb, ltb, eqb}
 use lib.ListN.{length, take, drop, getD}
 use Rattle.words.specs.Choice.{if_then_else_}
 use Rattle.words.specs.Bytes.{bigEndianAt}
-use Rattle.words.specs.Swap.{swapWords}
+use Rattle.word_blocks.specs.Swap.{swapWords}
 use Rattle.memory_map.specs.declared.region.Right.the-variants.{Write}
 use Rattle.outcome.specs.Outcome.{end, run, Ending, stops, refuses}
 use Rattle.memory_map.specs.Lookup as map

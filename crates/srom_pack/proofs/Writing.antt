@@ -8,8 +8,8 @@ use Rattle.words.specs.Bytes.{bigEndian}
 use Rattle.words.specs.Bytes.Laws.{length-bigEndian}
 use Rattle.words.specs.Store.{store, storeIfFits}
 use Rattle.words.specs.Store.Laws.{store-behind, sets-store}
-use Rattle.words.specs.Swap.{swapWords}
-use Rattle.words.specs.Swap.Laws.{length-swap}
+use Rattle.word_blocks.specs.Swap.{swapWords}
+use Rattle.word_blocks.specs.Swap.Laws.{length-swap}
 use Rattle.srom_pack.specs.Image.{block}
 
 -- start byte, length in words, address

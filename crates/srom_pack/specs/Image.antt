@@ -4,8 +4,8 @@ use mathlib.Core.List.{List, [], _∷_, _++_}
 use Prim.Native.Nat.{ℕ, suc, _/_}
 use lib.ListN.{length, take}
 use Rattle.words.specs.Bytes.{bigEndian}
-use Rattle.words.specs.Repeat.{filling}
-use Rattle.words.specs.Swap.{swapWords}
+use Rattle.word_blocks.specs.Repeat.{filling}
+use Rattle.word_blocks.specs.Swap.{swapWords}
 use Rattle.plan.specs.Plan.{Piece, put, fill, run, readPlan}
 use Rattle.plan.specs.Packed.{Packed, packedAs}
 

@@ -4,7 +4,7 @@ ghost use mathlib.Core.List.{_∷_, _++_};
 ghost use Prim.Native.Nat.{_+_, _%_, _≤_};
 ghost use lib.ListN.{length};
 ghost use Rattle.words.specs.Bytes.{littleEndian, bigEndian};
-ghost use Rattle.words.specs.Repeat.{filling};
+ghost use Rattle.word_blocks.specs.Repeat.{filling};
 ghost use Rattle.words.specs.Store.{store};
 ghost use Rattle.plan.specs.Code.{pieceIs};
 ghost use Rattle.plan.specs.Code.Packer.{Writable};

@@ -3,7 +3,7 @@ ghost use mathlib.Core.Path.{_≡_};
 ghost use Prim.Native.Nat.{_/_};
 ghost use lib.ListN.{length};
 ghost use Rattle.words.specs.Bytes.{littleEndian};
-ghost use Rattle.words.specs.Repeat.{repeated, filling};
+ghost use Rattle.word_blocks.specs.Repeat.{repeated, filling};
 ghost use Rattle.words.specs.Store.{store};
 
 // The whole words; bytes behind the last one stay as they are.

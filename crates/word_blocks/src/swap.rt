@@ -2,7 +2,7 @@
 ghost use mathlib.Core.Path.{_≡_};
 ghost use Prim.Native.Nat.{_%_};
 ghost use lib.ListN.{length};
-ghost use Rattle.words.specs.Swap.{swapWords};
+ghost use Rattle.word_blocks.specs.Swap.{swapWords};
 ghost use Rattle.words.specs.Store.{storeIfFits};
 
 // Whole words, the bytes of each the other way round.

@@ -1,10 +1,8 @@
 -- Bytes, words, stores and ranges: definitions, and below each its laws.
 pub mod Choice
 pub mod Bytes
-pub mod Swap
 pub mod Store
 pub mod Four
-pub mod Repeat
 pub mod Round
 pub mod Range
 pub mod Open

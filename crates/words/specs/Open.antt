@@ -2,9 +2,7 @@
 use Rattle.words.specs.Choice.{every}
 use Rattle.words.specs.Bytes.{littleEndian, bigEndian, fromLittleEndian, fromBigEndian, firstBytes, littleEndianAt, bigEndianAt}
 use Rattle.words.specs.Four.{fourBytes}
-use Rattle.words.specs.Swap.{swapWords}
 use Rattle.words.specs.Store.{store}
-use Rattle.words.specs.Repeat.{repeated, filling}
 use Rattle.words.specs.Round.{roundUp}
 use Rattle.words.specs.Range.{meets}
 
@@ -20,5 +18,5 @@ bytes = tt
 
 -- bytes that are stored
 unfoldable pub stores : Unit {0}
-unfolding bytes store repeated filling swapWords roundUp
+unfolding bytes store roundUp
 stores = tt

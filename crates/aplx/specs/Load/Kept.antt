@@ -7,8 +7,8 @@ use native.Mathlib.Omega.{arith}
 use lib.ListN.{length, take, drop}
 use Rattle.words.specs.Range.{meets}
 use Rattle.words.specs.Range.Laws.{Apart, misses-apart, apart-misses, apart-swap, apart-part}
-use Rattle.words.specs.Repeat.{repeated}
-use Rattle.words.specs.Repeat.Laws.{length-repeated}
+use Rattle.word_blocks.specs.Repeat.{repeated}
+use Rattle.word_blocks.specs.Repeat.Laws.{length-repeated}
 use Rattle.words.specs.Store.Laws.{length-store, part-outside}
 use Rattle.memory_map.specs.declared.region.Right.{Right}
 use Rattle.memory_map.specs.declared.region.Right.the-variants.{Read, Write}

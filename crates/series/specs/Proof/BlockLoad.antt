@@ -12,10 +12,10 @@ use Rattle.words.specs.Choice.{All, if_then_else_}
 use Rattle.words.specs.Choice.Laws.{all-drop}
 use Rattle.words.specs.Bytes.{bigEndian, bigEndianAt}
 use Rattle.words.specs.Bytes.Laws.{length-bigEndian, big-at-drop, big-at-behind, big-at-front}
-use Rattle.words.specs.Repeat.{filling}
-use Rattle.words.specs.Repeat.Laws.{length-filling}
-use Rattle.words.specs.Swap.{swapWords}
-use Rattle.words.specs.Swap.Laws.{swap-swap, length-swap}
+use Rattle.word_blocks.specs.Repeat.{filling}
+use Rattle.word_blocks.specs.Repeat.Laws.{length-filling}
+use Rattle.word_blocks.specs.Swap.{swapWords}
+use Rattle.word_blocks.specs.Swap.Laws.{swap-swap, length-swap}
 use Rattle.memory_map.specs.declared.region.Right.the-variants.{Write}
 use Rattle.memory_map.specs.declared.map.Map.{Map}
 use Rattle.outcome.specs.Outcome.{end, stops, memoryAt}

@@ -7,7 +7,7 @@ use native.Mathlib.Omega.{arith}
 use lib.ListN.{length, take, drop}
 use Rattle.words.specs.Choice.{All}
 use Rattle.words.specs.Range.Laws.{apart-part, misses-part}
-use Rattle.words.specs.Repeat.Laws.{filling-whole}
+use Rattle.word_blocks.specs.Repeat.Laws.{filling-whole}
 use Rattle.words.specs.Store.{store}
 use Rattle.memory_map.specs.declared.region.Right.the-variants.{Read, Write}
 use Rattle.outcome.specs.Outcome.{Ending}

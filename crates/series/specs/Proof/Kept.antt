@@ -6,8 +6,8 @@ use native.Mathlib.Omega.{arith}
 use lib.ListN.{length, take, drop}
 use Rattle.words.specs.Choice.{All}
 use Rattle.words.specs.Range.Laws.{Apart, before}
-use Rattle.words.specs.Repeat.{filling}
-use Rattle.words.specs.Repeat.Laws.{length-filling}
+use Rattle.word_blocks.specs.Repeat.{filling}
+use Rattle.word_blocks.specs.Repeat.Laws.{length-filling}
 use Rattle.words.specs.Store.Laws.{length-store, part-outside}
 use Rattle.memory_map.specs.declared.region.Right.the-variants.{Write}
 use Rattle.memory_map.specs.Lookup.{Lookup, Found, at, refused}

@@ -6,7 +6,7 @@ use native.Mathlib.Omega.{arith}
 use lib.ListN.{length, take, drop, getD}
 use borrow.Author.Tests.{le-leb, lt-leb, le-ltb, eq-eqb, ne-eqb}
 use Rattle.words.specs.Bytes.{bigEndianAt}
-use Rattle.words.specs.Swap.{swapWords}
+use Rattle.word_blocks.specs.Swap.{swapWords}
 use Rattle.memory_map.specs.declared.region.Right.the-variants.{Write}
 use Rattle.outcome.specs.Outcome.{end, stops, refuses}
 use Rattle.memory_map.specs.Lookup.{Lookup}

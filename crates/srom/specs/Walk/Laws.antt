@@ -11,8 +11,8 @@ use lib.Seq.{drop-cons, length-take-le}
 use borrow.Author.Tests.{leb-true, leb-false, ltb-false, eqb-true, eqb-false, not-false, eq-eqb, ne-eqb}
 use Rattle.words.specs.Choice.Laws.{from-else, from-then}
 use Rattle.words.specs.Bytes.{bigEndianAt}
-use Rattle.words.specs.Swap.{swapWords}
-use Rattle.words.specs.Swap.Laws.{length-swap}
+use Rattle.word_blocks.specs.Swap.{swapWords}
+use Rattle.word_blocks.specs.Swap.Laws.{length-swap}
 use Rattle.memory_map.specs.declared.region.Right.the-variants.{Write}
 use Rattle.memory_map.specs.Lookup as map
 use Rattle.memory_map.specs.Lookup.{Lookup, Found}

@@ -7,9 +7,9 @@ use native.Mathlib.Omega.{arith}
 use lib.ListN.{length, take, drop, length-append, take-append-drop}
 use lib.Seq.{drop-at, drop-drop, take-add, take-length}
 use Rattle.words.specs.Bytes.Laws.{length-bigEndian}
-use Rattle.words.specs.Repeat.{filling}
-use Rattle.words.specs.Repeat.Laws.{length-filling}
-use Rattle.words.specs.Swap.Laws.{length-swap}
+use Rattle.word_blocks.specs.Repeat.{filling}
+use Rattle.word_blocks.specs.Repeat.Laws.{length-filling}
+use Rattle.word_blocks.specs.Swap.Laws.{length-swap}
 use Rattle.plan.specs.Plan.{Piece, put, fill, run, dataOf, filledBy, putBytes, fillBytes}
 use Rattle.srom_pack.specs.Image.{block, blockOf, blocks, sromImage, blockAt}
 

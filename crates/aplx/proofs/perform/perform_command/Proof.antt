@@ -4,7 +4,7 @@ use Prim.Native.Nat.{_+_, _≤_}
 use native.Mathlib.Omega.{arith}
 use lib.ListN.{length}
 use borrow.Author.Needs.{needs}
-use Rattle.words.specs.Repeat.Laws.{filling-whole, fill-part}
+use Rattle.word_blocks.specs.Repeat.Laws.{filling-whole, fill-part}
 use Rattle.words.specs.Store.{store}
 use Rattle.memory_map.specs.declared.region.Right.the-variants.{Read, Write}
 use Rattle.memory_map.specs.Lookup.{lookup, placeOf}

@@ -13,7 +13,7 @@ use Rattle.memory_map.specs.Lookup.Laws.{lawful}
 use Rattle.memory_map.specs.Lookup.{lookup}
 use Rattle.memory_map.specs.declared.region.Right.the-variants.{Write}
 use Rattle.words.specs.Store.Laws.{length-store, store-fits}
-use Rattle.words.specs.Swap.{swapWords}
+use Rattle.word_blocks.specs.Swap.{swapWords}
 use Rattle.srom.proofs.store.store_blocks.Statement.{statement}
 use Rattle.srom.proofs.store.store_blocks.Tie as tie
 

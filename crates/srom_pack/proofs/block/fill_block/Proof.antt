@@ -2,12 +2,12 @@
 use mathlib.Core.Path.{ap, sym, _∙_}
 use Prim.Native.Nat.{_+_}
 use native.Mathlib.Omega.{arith}
-use Rattle.words.specs.Repeat.{filling}
-use Rattle.words.specs.Repeat.Laws.{length-filling, fill-part}
+use Rattle.word_blocks.specs.Repeat.{filling}
+use Rattle.word_blocks.specs.Repeat.Laws.{length-filling, fill-part}
 use Rattle.words.specs.Store.{store}
 use Rattle.words.specs.Store.Laws.{store-fits}
-use Rattle.words.specs.Swap.{swapWords}
-use Rattle.words.specs.Swap.Laws.{length-swap, swap-filling}
+use Rattle.word_blocks.specs.Swap.{swapWords}
+use Rattle.word_blocks.specs.Swap.Laws.{length-swap, swap-filling}
 use Rattle.srom_pack.proofs.Writing.{block-put}
 use borrow.Author.Needs.{needs}
 use Rattle.srom_pack.proofs.block.fill_block.Statement.{statement}

@@ -4,7 +4,7 @@ use mathlib.Core.List.{append-nil}
 use Prim.Native.Nat.{_+_, _-_, _≤_}
 use native.Mathlib.Omega.{arith}
 use lib.ListN.{length}
-use Rattle.words.specs.Swap.{swapWords}
+use Rattle.word_blocks.specs.Swap.{swapWords}
 use Rattle.plan.specs.declared.piece.Piece.the-variants.{Put, Fill}
 use Rattle.plan.specs.Code.Packer.{Writable}
 use Rattle.plan.specs.Code.Laws.{data-length}

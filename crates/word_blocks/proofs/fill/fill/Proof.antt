@@ -8,8 +8,8 @@ use borrow.Author.Needs.{needs}
 use borrow.Rule.Slice.PartMut.{mid-len}
 use Rattle.words.specs.Bytes.{littleEndian}
 use Rattle.words.specs.Bytes.Laws.{length-littleEndian}
-use Rattle.words.specs.Repeat.{repeated, filling}
-use Rattle.words.specs.Repeat.Laws.{length-repeated, filling-split}
+use Rattle.word_blocks.specs.Repeat.{repeated, filling}
+use Rattle.word_blocks.specs.Repeat.Laws.{length-repeated, filling-split}
 use Rattle.words.specs.Store.{store}
 use Rattle.words.specs.Store.Laws.{store-part, store-adjoining, store-whole}
 use Rattle.word_blocks.proofs.fill.fill.Statement.{statement}

@@ -7,8 +7,8 @@ use lib.ListN.{length, set, length-set}
 use borrow.Author.Needs.{needs}
 use Rattle.words.specs.Bytes.{littleEndian}
 use Rattle.words.specs.Bytes.Laws.{word-bytes, length-littleEndian}
-use Rattle.words.specs.Repeat.{repeated}
-use Rattle.words.specs.Repeat.Laws.{repeated-more, length-repeated}
+use Rattle.word_blocks.specs.Repeat.{repeated}
+use Rattle.word_blocks.specs.Repeat.Laws.{repeated-more, length-repeated}
 use Rattle.words.specs.Store.{store, storeIfFits}
 use Rattle.words.specs.Store.Laws.{four-sets, store-behind, store-nil}
 use Rattle.word_blocks.proofs.fill.whole_words.Statement.{statement}

@@ -7,9 +7,9 @@ use borrow.Author.Tests.{leb-true, leb-false}
 use lib.ListN.{length, take, drop}
 use lib.Seq.{take-all, length-take-le}
 use lib.ListN.{length-drop}
-use Rattle.words.specs.Swap.Laws.{swap-whole-words}
-use Rattle.words.specs.Swap.Laws.{length-swap}
-use Rattle.words.specs.Swap.{swapWords}
+use Rattle.word_blocks.specs.Swap.Laws.{swap-whole-words}
+use Rattle.word_blocks.specs.Swap.Laws.{length-swap}
+use Rattle.word_blocks.specs.Swap.{swapWords}
 use Rattle.words.specs.Store.Laws.{store-part, store-fits, store-unfit, store-behind}
 use Rattle.words.specs.Store.{store}
 use Rattle.word_blocks.proofs.swap.put.Statement.{statement}

@@ -5,8 +5,8 @@ use borrow.Author.Needs.{needs}
 use native.Mathlib.Omega.{arith}
 use lib.ListN.{length, take, drop}
 use Rattle.words.specs.Store.{store}
-use Rattle.words.specs.Swap.{swapWords}
-use Rattle.words.specs.Swap.Laws.{length-swap, swap-number, swap-more}
+use Rattle.word_blocks.specs.Swap.{swapWords}
+use Rattle.word_blocks.specs.Swap.Laws.{length-swap, swap-number, swap-more}
 use Rattle.words.specs.Store.Laws.{store-fits, store-nil, store-whole, store-part}
 use Rattle.words.specs.Choice.Laws.{all-elements, all-take, all-drop}
 use Rattle.words.specs.Bytes.{Bytes}

@@ -5,14 +5,14 @@ use Prim.Native.Nat.{ℕ, zero, suc, _+_, _*_, _/_, _%_, _≤_, _<_}
 use native.Mathlib.Omega.{arith}
 use lib.ListN.{length, take, drop, length-drop, take-append-drop}
 use lib.Seq.{length-take-le, take-add}
 use Rattle.words.specs.Choice.Laws.{all-reverse}
 use Rattle.words.specs.Bytes.{littleEndian, bigEndian, fromBigEndian, firstBytes, bigEndianAt, Bytes}
 use Rattle.words.specs.Bytes.Laws.{length-littleEndian, littleEndian-from, word-bytes}
-use Rattle.words.specs.Repeat.{repeated, filling}
-use Rattle.words.specs.Repeat.Laws.{filling-whole}
+use Rattle.word_blocks.specs.Repeat.{repeated, filling}
+use Rattle.word_blocks.specs.Repeat.Laws.{filling-whole}
 use Rattle.words.specs.Store.{store}
 use Rattle.words.specs.Store.Laws.{store-adjoining}
-use Rattle.words.specs.Swap.{swapWords}
+use Rattle.word_blocks.specs.Swap.{swapWords}
 
 pub swap-swap : (s : List ℕ) → swapWords (swapWords s) ≡ s
 unfolding swapWords

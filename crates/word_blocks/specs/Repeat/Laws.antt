@@ -7,12 +7,12 @@ use native.Mathlib.Omega.{arith}
 use lib.ListN.{length, take, length-append}
 use lib.Seq.{take-append-le, take-append-add, length-take-le}
 use borrow.Rule.Slice.PartMut.{midOf, putMid, mid-len}
 use Rattle.words.specs.Bytes.{littleEndian, Bytes}
 use Rattle.words.specs.Bytes.Laws.{length-littleEndian, take-littleEndian, bytes-of}
 use Rattle.words.specs.Choice.Laws.{all-append, all-take}
-use Rattle.words.specs.Repeat.{repeated, filling}
+use Rattle.word_blocks.specs.Repeat.{repeated, filling}
 use Rattle.words.specs.Store.{store}
 use Rattle.words.specs.Store.Laws.{store-part}
 
 pub length-repeated : (k w : ℕ) → length (repeated k w) ≡ 4 * k
 unfolding repeated
