@@ -16,7 +16,7 @@ use Rattle.memory_map.specs.Lookup as map
 use Rattle.memory_map.specs.Lookup.{Lookup, Found, lookup}
 use Rattle.memory_map.specs.Entry as entry
 use Rattle.memory_map.specs.Entry.{RunEntry, runEntry}
-use Rattle.aplx.specs.Load.{aplxLoad}
+use Rattle.aplx.specs.Load.{loadWith}
 use Rattle.scp.specs.declared.answer.Identity.{Identity}
 use Rattle.scp.specs.Packet.{commandOf, arg1, arg2, arg3, dataOf, header, OK, LEN, CMD, ARG, aligned, version}
 
@@ -67,10 +67,10 @@ loadReaction (outcome.refused n p) s m = coded ARG s m
 abbrev pub loadedReaction : Loaded → List ℕ → Reaction
 loadedReaction l s = loadReaction (l .outcome) s (l .memory)
 
-unfoldable pub loadPacket : Map → List ℕ → List ℕ → Reaction
-loadPacket map s m =
+unfoldable pub loadPacket : Lookup → List ℕ → List ℕ → Reaction
+loadPacket find s m =
     if ltb (length s) 8 then coded LEN s m
-    else loadedReaction (aplxLoad map m (arg1 s)) s
+    else loadedReaction (loadWith find m (arg1 s)) s
 
 -- ---- READ and WRITE
 abbrev pub tooLarge : List ℕ → Bool
@@ -123,28 +123,28 @@ writePacket find s m = writeAs (transfer true s) find s m
 
 -- ---- the packet
 -- "VER 0 and RUN 1 stand in the note; READ 2, WRITE 3, APLX 4"; "unknown command, CMD"
-unfoldable pub command : Map → Identity → List ℕ → List ℕ → Reaction
-command map id s m =
+unfoldable pub command : Lookup → Identity → List ℕ → List ℕ → Reaction
+command find id s m =
     if eqb (commandOf s) 0 then respond (version id s) m
-    else if eqb (commandOf s) 1 then runPacket (lookup map) s m
-    else if eqb (commandOf s) 2 then readPacket (lookup map) s m
-    else if eqb (commandOf s) 3 then writePacket (lookup map) s m
-    else if eqb (commandOf s) 4 then loadPacket map s m
+    else if eqb (commandOf s) 1 then runPacket find s m
+    else if eqb (commandOf s) 2 then readPacket find s m
+    else if eqb (commandOf s) 3 then writePacket find s m
+    else if eqb (commandOf s) 4 then loadPacket find s m
     else coded CMD s m
 
 -- "Order: under 4 bytes, no response and nothing done; over 272, LEN"
-unfoldable pub packet : Map → Identity → List ℕ → List ℕ → Reaction
-packet map id s m =
+unfoldable pub packet : Lookup → Identity → List ℕ → List ℕ → Reaction
+packet find id s m =
     if ltb (length s) 4 then without silent m
     else if ltb 272 (length s) then coded LEN s m
-    else command map id s m
+    else command find id s m
 
 -- "The lent output must hold 272 bytes, else 10. After 10 or 1 there is no response and nothing is done."; n is the output's length
 unfoldable pub reaction : Map → Identity → ℕ → List ℕ → List ℕ → Reaction
 reaction map id n s m =
     if ltb n 272 then without (refused 10 0) m
     else if not (sound map (length m)) then without (refused 1 0) m
-    else packet map id s m
+    else packet (lookup map) id s m
 
 -- the reply, the memory, and the whole output: "Output past the response is untouched."
 pub record Answered : Type 0 where

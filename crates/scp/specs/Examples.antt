@@ -9,7 +9,7 @@ use Rattle.outcome.specs.Outcome.{arm, thumb}
 use Rattle.memory_map.specs.Lookup.{Lookup, lookupIn}
 use Rattle.scp.specs.declared.answer.Identity.{Identity}
 use Rattle.scp.specs.Packet.{version}
-use Rattle.scp.specs.Answer.{responds, runs, runPacket, readPacket, writePacket}
+use Rattle.scp.specs.Answer.{silent, responds, runs, without, runPacket, readPacket, writePacket, packet, answered}
 use Rattle.scp.specs.Open as group
 
 -- 512 bytes at address 4096 with every right
@@ -96,6 +96,11 @@ record Others : Type 0 where
   pub run-silent : runPacket find (asks 1 4096 0 0) memory .response ≡ []
   pub run-nowhere : runPacket find (asks 1 4098 0 0) memory .response ≡ 0x84 ∷ 0 ∷ 0x11 ∷ 0x22 ∷ []
   pub run-short : runPacket find (take 7 (asks 1 4096 0 0)) memory .response ≡ 0x81 ∷ 0 ∷ 0x11 ∷ 0x22 ∷ []
+  pub under-four : packet find identity (take 3 (asks 0 0 0 0)) memory ≡ without silent memory
+  pub over-most : packet find identity (asks 0 0 0 0 ++ replicate 257 0) memory .response ≡ 0x81 ∷ 0 ∷ 0x11 ∷ 0x22 ∷ []
+  pub unknown : packet find identity (asks 5 0 0 0) memory .response ≡ 0x83 ∷ 0 ∷ 0x11 ∷ 0x22 ∷ []
+  -- the output past the response stays as it was
+  pub past-response : answered (packet find identity (asks 2 4096 4 0) memory) (replicate 10 9) .output ≡ 0x80 ∷ 0 ∷ 0x11 ∷ 0x22 ∷ 7 ∷ 7 ∷ 7 ∷ 7 ∷ 9 ∷ 9 ∷ []
 
 others : Others
 unfolding find asks identity group.answers
@@ -106,4 +111,8 @@ others = record {
   run-silent = refl;
   run-nowhere = refl;
   run-short = refl;
+  under-four = refl;
+  over-most = refl;
+  unknown = refl;
+  past-response = refl;
 }

@@ -4,6 +4,7 @@ ghost use mathlib.Core.Bool.{true};
 ghost use Prim.Native.Nat.{_≤_};
 ghost use lib.ListN.{length};
 ghost use Rattle.memory_map.specs.Map.{sound};
+ghost use Rattle.memory_map.specs.Lookup.{lookup};
 ghost use Rattle.scp.specs.Answer.{answered, command, scpAnswer};
 ghost use Rattle.scp.specs.Code.{replyOf};
 use memory_map::map::Map;
@@ -40,7 +41,7 @@ fn answer_command(
     output: &mut [u8],
 ) -> Reply
     requires { ⌜ (4 ≤ length (now packet)) × (length (now packet) ≤ 272) × (272 ≤ length (now output)) × (sound map (length (now memory)) ≡ true) ⌝ }
-    ensures { λ r. ⌜ record { reply = replyOf r; memory = now (memory .exit); output = now (output .exit) } ≡ answered (command map identity (now (packet .entry)) (now (memory .entry))) (now (output .entry)) ⌝ }
+    ensures { λ r. ⌜ record { reply = replyOf r; memory = now (memory .exit); output = now (output .exit) } ≡ answered (command (lookup map) identity (now (packet .entry)) (now (memory .entry))) (now (output .entry)) ⌝ }
 {
     let code = words::read::le_half(packet);
     if code == 0 {

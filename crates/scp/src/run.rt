@@ -1,8 +1,10 @@
 // RUN and APLX.
 ghost use mathlib.Core.Path.{_≡_};
+ghost use mathlib.Core.Bool.{true};
 ghost use mathlib.Core.List.{List};
 ghost use Prim.Native.Nat.{ℕ, _≤_};
 ghost use lib.ListN.{length};
+ghost use Rattle.memory_map.specs.Map.{sound};
 ghost use Rattle.memory_map.specs.Lookup.{lookup};
 ghost use Rattle.outcome.specs.Outcome.{outcomeOf};
 ghost use Rattle.scp.specs.Answer.{runPacket, loadReaction, loadPacket, answered};
@@ -52,8 +54,8 @@ fn loaded(answer: Answer, packet: &[u8], output: &mut [u8]) -> Reply
 
 // An APLX packet.
 pub(crate) fn load(map: Map, memory: &mut [u8], packet: &[u8], output: &mut [u8]) -> Reply
-    requires { ⌜ (4 ≤ length (now packet)) × (4 ≤ length (now output)) ⌝ }
-    ensures { λ r. ⌜ record { reply = replyOf r; memory = now (memory .exit); output = now (output .exit) } ≡ answered (loadPacket map (now (packet .entry)) (now (memory .entry))) (now (output .entry)) ⌝ }
+    requires { ⌜ (4 ≤ length (now packet)) × (4 ≤ length (now output)) × (sound map (length (now memory)) ≡ true) ⌝ }
+    ensures { λ r. ⌜ record { reply = replyOf r; memory = now (memory .exit); output = now (output .exit) } ≡ answered (loadPacket (lookup map) (now (packet .entry)) (now (memory .entry))) (now (output .entry)) ⌝ }
 {
     if packet.len() < 8 {
         return crate::reply::coded(0x81, packet, output);

@@ -4,7 +4,9 @@ use mathlib.Core.Path.{sym}
 use native.Mathlib.Omega.{arith}
 use borrow.Author.Tests.{lt-ltb, le-ltb}
 use lib.ListN.{length}
+use Rattle.aplx.specs.Load.Laws.{sound-load}
 use Rattle.scp.specs.Answer.Laws.{coded-answer}
+use Rattle.scp.specs.Packet.{arg1}
 use Rattle.scp.specs.Answer.{loadPacket}
 use Rattle.scp.proofs.run.load.Statement.{statement}
 use Rattle.scp.proofs.run.load.Tie as tie
@@ -41,7 +43,8 @@ unfolding loadPacket
 returns-2 c = let d = c .before .before .before .before .before .before in
     let x = d .before .before .before .before .before .before .before .args in
     let l = rw (d .before .before .le-word-at .ensures) at (d .load .ensures) in
-    simp (le-ltb (length (x .packet .now)) 8 (omega arith), sym l) (c .before .before .loaded .ensures (d .load .last .1 .0))
+    let s = sound-load (x .map) (x .memory .now) (arg1 (x .packet .now)) (d .before .before .before .before .before .before .before .pre .2) in
+    simp (le-ltb (length (x .packet .now)) 8 (omega arith), sym s, sym l) (c .before .before .loaded .ensures (d .load .last .1 .0))
 
 pub load-spec : {M : Type 1} → statement M
 load-spec =
