@@ -1,5 +1,6 @@
 -- What a load answers, in the terms of paper 01 ("Memory map", last paragraph; "Refusal numbers"; "APLX", last paragraph),
 -- and what each case of the code's answer says in these terms.
+pub mod Injective
 pub mod Laws
 use mathlib.Core.List.{List}
 use Prim.Native.Nat.{ℕ}
