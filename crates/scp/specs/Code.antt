@@ -1,4 +1,5 @@
 -- What the cases of the code's answer say, in the terms of paper 01.
+pub mod Injective
 use Rattle.outcome.specs.Outcome.{kindOf, addressOf}
 use Rattle.scp.specs.declared.answer.Reply as code
 use Rattle.scp.specs.declared.answer.Reply.the-variants.{Refused, Silent, Response, Run, Load}
