@@ -3,3 +3,5 @@ pub mod Example
 pub mod Plans
 pub mod Loads
 pub mod Packers
+pub mod Twice
+pub mod Later
