@@ -40,7 +40,9 @@ record Images : Type 0 where
   pub other-length : Carries fill-and-run 0 (fill 0x00400000 64 0 ∷ run 0 ∷ []) → ⊥
 
 -- an entry, by its words
-entry : {image : List ℕ} {k c x y z : ℕ} → k + 16 ≤ length image → fourAt image k ≡ record { first = c; second = x; third = y; fourth = z } → EntryAt image k c x y z
+entry :
+    {image : List ℕ} {k c x y z : ℕ}
+    → k + 16 ≤ length image → fourAt image k ≡ record { first = c; second = x; third = y; fourth = z } → EntryAt image k c x y z
 entry h e =
     record { whole = h; command = ap (λ w. w .first) e; first = ap (λ w. w .second) e; second = ap (λ w. w .third) e; third = ap (λ w. w .fourth) e }
 

@@ -16,15 +16,16 @@ use Rattle.aplx_image.specs.Carries.{EntryAt, Says, Carries}
 pub entry-here : (image : List ℕ) (k c x y z : ℕ) (rest : List ℕ) → drop k image ≡ fourBytes c x y z ++ rest
     → c < 4294967296 → x < 4294967296 → y < 4294967296 → z < 4294967296 → EntryAt image k c x y z
 unfolding fourBytes littleEndian littleEndianAt firstBytes
-entry-here image k c x y z rest e hc hx hy hz =
-    let w : (j : ℕ) → littleEndianAt 4 image (k + j) ≡ littleEndianAt 4 (fourBytes c x y z ++ rest) j = λ j. sym (little-at-drop 4 k j image) ∙ ap (λ (s : List ℕ). littleEndianAt 4 s j) e in
-    record {
-      whole = omega (arith, length-drop k image, ap length e ∙ length-append (fourBytes c x y z) rest, length-fourBytes c x y z);
-      command = rw (add-zero k) at (w 0) ∙ little-at-front 4 c [] hc;
-      first = w 4 ∙ little-at-front 4 x [] hx;
-      second = w 8 ∙ little-at-front 4 y [] hy;
-      third = w 12 ∙ little-at-front 4 z [] hz;
-    }
+entry-here image k c x y z rest e hc hx hy hz = record {
+  whole = omega (arith, length-drop k image, ap length e ∙ length-append (fourBytes c x y z) rest, length-fourBytes c x y z);
+  command = rw (add-zero k) at (word 0) ∙ little-at-front 4 c [] hc;
+  first = word 4 ∙ little-at-front 4 x [] hx;
+  second = word 8 ∙ little-at-front 4 y [] hy;
+  third = word 12 ∙ little-at-front 4 z [] hz;
+}
+  where
+    word : (j : ℕ) → littleEndianAt 4 image (k + j) ≡ littleEndianAt 4 (fourBytes c x y z ++ rest) j
+    word j = sym (little-at-drop 4 k j image) ∙ ap (λ (s : List ℕ). littleEndianAt 4 s j) e
 
 -- an entry lies within the image
 pub says-whole : (image : List ℕ) (k : ℕ) (p : Piece) → Says image k p → k + 16 ≤ length image

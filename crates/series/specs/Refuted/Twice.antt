@@ -27,7 +27,7 @@ use Rattle.srom_pack.specs.Open as srom-pack-group
 use Rattle.aplx_pack.specs.Image.{aplxImage, packAplx}
 use Rattle.aplx_pack.specs.Open as aplx-pack-group
 use Rattle.series.specs.Series.{Change, changed, Step, Left, series}
-use Rattle.series.specs.Medium.{Medium, srom, aplx, endingIn, Spares}
+use Rattle.series.specs.Medium.{Medium, srom, aplx, startOf, endingIn, Spares}
 use Rattle.series.specs.Software.{Software, packed}
 use Rattle.series.specs.Demand.{loads, means, Demand3}
 use Rattle.series.specs.Refuted.Example.{example, find, finds, memoryWith, Lies, in-slice, in-memory, same-series}
@@ -41,8 +41,14 @@ code = record { place = 128; byte = 99 } ∷ []
 abbrev twice : List Step
 twice = record { index = 0; changes = code } ∷ record { index = 2; changes = [] } ∷ []
 
--- where two such series are the same, so are the second loads of the memory that they find
-second-same : (f g : ℕ → List ℕ → Left) (m : List ℕ) → series f twice m ≡ series g twice m → f 2 (changed code (g 0 m .memory)) ≡ g 2 (changed code (g 0 m .memory))
+-- where the load from index i begins
+abbrev pub startsAt : Medium → ℕ → ℕ
+startsAt k i = startOf k four-pieces i
+
+-- where two such series are the same, so are the second loads, on the memory that they find
+second-same :
+    (f g : ℕ → List ℕ → Left) (m : List ℕ) → series f twice m ≡ series g twice m
+    → f 2 (changed code (g 0 m .memory)) ≡ g 2 (changed code (g 0 m .memory))
 unfolding series
 second-same f g m e = let a : f 0 m ≡ g 0 m = ap first e in rw a at (ap second e)
   where
@@ -77,19 +83,23 @@ second-load s demand k {image} lies e alone =
     (same-series s demand k reads-runs lies e twice (omega arith, (omega arith, tt)) (alone, (tt, tt))))
 
 -- ---- software with a loader that is made of ours
--- `act` is given our load, which is told a place and a memory, and then the place and the memory
-abbrev pub usingSrom : ((ℕ → List ℕ → Loaded) → ℕ → List ℕ → Loaded) → Software
+-- a load from a place on a memory
+abbrev pub Load : Type 0
+Load = ℕ → List ℕ → Loaded
+
+-- `act` is given our load
+abbrev pub usingSrom : (Load → Load) → Software
 usingSrom act = record { packSrom = packSrom; packAplx = packAplx; loadSrom = λ map s o m. act (sromLoad map s) o m; loadAplx = aplxLoad }
 
-abbrev pub usingAplx : ((ℕ → List ℕ → Loaded) → ℕ → List ℕ → Loaded) → Software
+abbrev pub usingAplx : (Load → Load) → Software
 usingAplx act = record { packSrom = packSrom; packAplx = packAplx; loadSrom = sromLoad; loadAplx = λ map m h. act (λ o n. aplxLoad map n o) h m }
 
 -- our loads with the example map, which compute
-unfoldable pub sromFrom : ℕ → List ℕ → Loaded
+unfoldable pub sromFrom : Load
 sromFrom o m =
     srom-load.loaded (if sound example (length m) then srom-load.look find (sromImage four-pieces) o else record { blocks = []; ending = refuses 1 0 }) m
 
-unfoldable pub aplxFrom : ℕ → List ℕ → Loaded
+unfoldable pub aplxFrom : Load
 aplxFrom h m =
     aplx-load.loaded find (if sound example (length m) then look find m h else record { commands = []; ending = refuses 1 0 }) m
 
@@ -115,14 +125,15 @@ leftBy l = record { memory = l .memory; ending = endingOf (l .outcome) }
 
 -- under demand 3, the second load leaves what its stretch means
 pub srom-second :
-    (act : (ℕ → List ℕ → Loaded) → ℕ → List ℕ → Loaded) → Demand3 (usingSrom act)
-    → leftBy (act sromFrom 47 (between (sromImage four-pieces))) ≡ second-meant srom (sromImage four-pieces)
+    (act : Load → Load) → Demand3 (usingSrom act)
+    → leftBy (act sromFrom (startsAt srom 2) (between (sromImage four-pieces))) ≡ second-meant srom (sromImage four-pieces)
 unfolding twoRuns memoryWith plan-group.meanings srom-pack-group.image aplx-pack-group.image
 srom-second act demand = rw srom-is at (second-load (usingSrom act) demand srom (in-slice refl) refl (tt, tt))
 
 pub aplx-second :
-    (act : (ℕ → List ℕ → Loaded) → ℕ → List ℕ → Loaded) → Demand3 (usingAplx act)
-    → leftBy (act aplxFrom 4128 (between (aplxImage four-pieces))) ≡ second-meant (aplx 4096) (aplxImage four-pieces)
+    (act : Load → Load) → Demand3 (usingAplx act)
+    → leftBy (act aplxFrom (startsAt (aplx 4096) 2) (between (aplxImage four-pieces))) ≡ second-meant (aplx 4096) (aplxImage four-pieces)
 unfolding twoRuns find memoryWith words-group.tests plan-group.meanings aplx-pack-group.image
 aplx-second act demand =
-    rw aplx-is at (second-load (usingAplx act) demand (aplx 4096) (in-memory refl refl refl (refl, (tt, (refl, (tt, tt))))) refl (spared (aplxImage four-pieces) refl refl))
+    let lies : Lies (aplx 4096) four-pieces (aplxImage four-pieces) = in-memory refl refl refl (refl, (tt, (refl, (tt, tt)))) in
+    rw aplx-is at (second-load (usingAplx act) demand (aplx 4096) lies refl (spared (aplxImage four-pieces) refl refl))
