@@ -68,6 +68,6 @@ carries-tail image k d (p ∷ ps) e h o most g = (
 pub packed-carries : (ps : List Piece) → length (aplxImage ps) ≤ 4294967280 → All (Packable 32) ps → Carries (aplxImage ps) 0 ps
 packed-carries ps most g = carries-tail (aplxImage ps) 0 [] ps (image-tail ps) (omega arith) (omega arith) most g
 
--- ---- the image of pieces that a plan may have is that short
+-- ---- the image of as many pieces as a load can read is that short
 pub image-short : (ps : List Piece) → length ps ≤ 255 → All (Packable 32) ps → length (aplxImage ps) ≤ 4294967280
 image-short ps few g = omega (arith, length-aplxImage ps, bytes-most 32 ps g)

@@ -39,7 +39,8 @@ abbrev pub Carried : Medium → List ℕ → List Piece → Type 0
 Carried (aplx a) image ps = Carries image 0 ps
 Carried srom image ps = image ≡ sromImage ps
 
--- pieces that a plan may have, and an image that carries them
+-- pieces whose lengths the medium can express, and an image that carries them. A plan has 64 at most; 255 and the end entry are the 256
+-- entries that an APLX load reads, and 255 blocks stay under the limit of 13
 module _ (k : Medium) (ps : List Piece) (image : List ℕ) (few : length ps ≤ 255) (good : All (Packable (unitOf k)) ps) (carried : Carried k image ps) (map : Map) where
   pub one-load : (i : ℕ) → i ≤ length ps → (m : List ℕ) → Before k map ps image m → loads ours k map ps image i m ≡ means k map ps i m
   one-load i h m b = go k good carried b
