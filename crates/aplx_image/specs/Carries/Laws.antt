@@ -10,7 +10,7 @@ use Rattle.words.specs.Bytes.Laws.{little-at-drop, little-at-front}
 use Rattle.words.specs.Four.{fourBytes}
 use Rattle.words.specs.Four.Laws.{length-fourBytes}
 use Rattle.plan.specs.Plan.{Piece, put, fill, run}
-use Rattle.aplx_image.specs.Carries.{EntryAt, Says, Carries}
+use Rattle.aplx_image.specs.Carries.{EntryAt, EndAt, Says, Carries}
 
 -- four words that stand at offset k are the entry there
 pub entry-here : (image : List ℕ) (k c x y z : ℕ) (rest : List ℕ) → drop k image ≡ fourBytes c x y z ++ rest
@@ -35,7 +35,7 @@ says-whole image k (run a) s = s .entry .whole
 
 -- the end too
 pub carries-whole : (image : List ℕ) (k : ℕ) (ps : List Piece) → Carries image k ps → k + 16 ≤ length image
-carries-whole image k [] c = c .entry .whole
+carries-whole image k [] c = let e : EndAt image k = c in e .entry .whole
 carries-whole image k (p ∷ ps) c = says-whole image k p (c .0)
 
 -- from the entry of piece i on it carries the pieces from i on
