@@ -58,6 +58,12 @@ pub data Finish : Type 0 where
   runs : ℕ → ℕ → Finish  -- "run stops and names its address"; the index of the run
   denies : ℕ → ℕ → Finish  -- a piece is not permitted: number, index of the first such piece
 
+-- "every piece of the stretch is permitted": it ends at its run or without one (`stopped-permitted`, `permitted-stopped` in the laws)
+abbrev pub Stopped : Finish → Type 0
+Stopped (ends i) = Unit {0}
+Stopped (runs a i) = Unit {0}
+Stopped (denies x i) = ⊥
+
 abbrev pub or-deny : Permit → ℕ → Finish → Finish
 or-deny allowed i f = f
 or-deny (denied x) i f = denies x i

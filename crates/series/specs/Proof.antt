@@ -2,9 +2,7 @@
 pub mod Kept  -- what pieces leave as it was
 pub mod Preserved  -- the image stays intact
 pub mod BlockLoad  -- SROM: one load
-pub mod Carries  -- APLX: what an image has to be
-pub mod Packed  -- the packed image is such a one
-pub mod Entries  -- the walk over a stretch
+pub mod Entries  -- APLX: the walk over a stretch
 pub mod Commands  -- the effect of a stretch
 pub mod EntryLoad  -- one load
 pub mod Theorem  -- every series of loads, both media

@@ -9,12 +9,12 @@ use lib.ListN.{length, drop}
 use Rattle.words.specs.Choice.{All, if_then_else_}
 use Rattle.memory_map.specs.declared.region.Right.the-variants.{Write}
 use Rattle.memory_map.specs.Lookup as map
-use Rattle.memory_map.specs.Lookup.{Lookup, Found}
+use Rattle.memory_map.specs.Lookup.{Lookup, Found, placeOf}
 use Rattle.memory_map.specs.Lookup.Laws.{Lawful}
 use Rattle.memory_map.specs.Entry as entry
 use Rattle.memory_map.specs.Entry.{legal, kindAt, runEntry}
 use Rattle.plan.specs.Plan.{Piece, put, fill, run}
-use Rattle.plan.specs.Meaning.{allowed, denied, ranged, entered, permit, effect, effects, stretch, ends, runs, denies, finish, meaning}
+use Rattle.plan.specs.Meaning.{Permit, allowed, denied, ranged, entered, permit, effect, effects, stretch, Finish, ends, runs, denies, Stopped, or-deny, finish, meaning}
 
 -- a put or a fill
 abbrev pub Stores : Piece → Type 0
@@ -35,8 +35,38 @@ stretch-past (put a d ∷ qs) rs s = rw (stretch-past qs rs (s .1))
 stretch-past (fill a n w ∷ qs) rs s = rw (stretch-past qs rs (s .1))
 stretch-past (run a ∷ qs) rs s = absurd (s .0)
 
+-- a range that is permitted was found
+pub permitted-at : (f : Found) → ranged f ≡ allowed → f ≡ map.at (placeOf f)
+permitted-at (map.at q) e = refl
+permitted-at (map.refused y) e = let z : _≡_ {A = ℕ} 0 1 = cc in absurd (omega arith)
+
+-- where no piece is denied, the first is permitted, and the stretch ends as the others do
+pub stopped-first : (v : Permit) (i : ℕ) (x : Finish) → Stopped (or-deny v i x) → (v ≡ allowed) × (or-deny v i x ≡ x)
+stopped-first allowed i x s = (refl, refl)
+stopped-first (denied y) i x s = absurd s
+
 module _ (find : Lookup) where
-  finish-past : (qs rs : List Piece) (i : ℕ) → All Stores qs → All (λ q. permit find q ≡ allowed) qs → finish find (qs ++ rs) i ≡ finish find rs (i + length qs)
+  -- all are
+  pub stopped-permitted : (ps : List Piece) (i : ℕ) → Stopped (finish find (stretch ps) i) → All (λ p. permit find p ≡ allowed) (stretch ps)
+  unfolding finish stretch
+  stopped-permitted [] i s = tt
+  stopped-permitted (put a d ∷ ps) i s =
+      let u = stopped-first (permit find (put a d)) i _ s in
+      (u .0, stopped-permitted ps (suc i) (rw (u .1) at s))
+  stopped-permitted (fill a n w ∷ ps) i s =
+      let u = stopped-first (permit find (fill a n w)) i _ s in
+      (u .0, stopped-permitted ps (suc i) (rw (u .1) at s))
+  stopped-permitted (run a ∷ ps) i s = (stopped-first (permit find (run a)) i (runs a i) s .0, tt)
+
+  -- and where all are, none is denied
+  pub permitted-stopped : (ps : List Piece) (i : ℕ) → All (λ p. permit find p ≡ allowed) (stretch ps) → Stopped (finish find (stretch ps) i)
+  unfolding finish stretch
+  permitted-stopped [] i h = tt
+  permitted-stopped (put a d ∷ ps) i h = rw (h .0) (permitted-stopped ps (suc i) (h .1))
+  permitted-stopped (fill a n w ∷ ps) i h = rw (h .0) (permitted-stopped ps (suc i) (h .1))
+  permitted-stopped (run a ∷ ps) i h = rw (h .0) tt
+
+  pub finish-past : (qs rs : List Piece) (i : ℕ) → All Stores qs → All (λ q. permit find q ≡ allowed) qs → finish find (qs ++ rs) i ≡ finish find rs (i + length qs)
   unfolding finish
   finish-past [] rs i s h = rw add-zero
   finish-past (put a d ∷ qs) rs i s h = rw (h .0, finish-past qs rs (suc i) (s .1) (h .1), add-suc, suc-add)

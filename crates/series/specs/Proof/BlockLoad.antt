@@ -171,7 +171,7 @@ module _ (find : Lookup) (ps : List Piece) (i : ℕ) (old : List ℕ) where
   walks (run a ∷ qs) j e c m = run-step j a qs e (c .0 .0) m
 
 -- ---- one load
-module _ (map : Map) (ps : List Piece) (few : length ps ≤ 64) (good : All (Packable 4) ps) (m : List ℕ) (safe : sound map (length m) ≡ true) where
+module _ (map : Map) (ps : List Piece) (few : length ps ≤ 255) (good : All (Packable 4) ps) (m : List ℕ) (safe : sound map (length m) ≡ true) where
   from-block : (i : ℕ) → done (walk (lookup map) (sromImage ps) (blockAt ps i)) m m ≡ means srom map ps i m
   unfolding meaning
   from-block i = walks (lookup map) ps i m (drop i ps) i refl (all-drop (Packable 4) i ps good) m

@@ -11,18 +11,20 @@ use Rattle.word_blocks.specs.Repeat.Laws.{filling-whole}
 use Rattle.words.specs.Store.{store}
 use Rattle.memory_map.specs.declared.region.Right.the-variants.{Read, Write}
 use Rattle.outcome.specs.Outcome.{Ending}
-use Rattle.memory_map.specs.Lookup.{Lookup, Found, at, refused, placeOf}
+use Rattle.memory_map.specs.Lookup.{Lookup, at}
 use Rattle.memory_map.specs.Lookup.Laws.{Lawful}
 use Rattle.plan.specs.Plan.{Piece, put, fill, run}
 use Rattle.plan.specs.Plan.Laws.{Packable}
-use Rattle.plan.specs.Meaning.{Permit, allowed, denied, ranged, permit, effect, effects, stretch, Finish, ends, runs, denies, or-deny, finish}
+use Rattle.plan.specs.Meaning.{allowed, permit, effect, effects, stretch, runs, Stopped, or-deny, finish}
+use Rattle.plan.specs.Meaning.Laws.{permitted-at, stopped-first}
+use Rattle.aplx_image.specs.Carries.{Says, Carries}
+use Rattle.aplx_image.specs.Carries.Laws.{says-whole}
 use Rattle.aplx_copy.specs.Copy.Laws.{copied-apart}
 use Rattle.aplx_look.specs.Command.{Command}
 use Rattle.aplx_look.specs.Walk.{commands}
 use Rattle.aplx_look.specs.Look.{meetsHeader, headerTest}
 use Rattle.aplx.specs.Load.{perform, performAll}
 use Rattle.series.specs.Medium.{Misses}
-use Rattle.series.specs.Proof.Carries.{Says, says-whole, Carries}
 use Rattle.series.specs.Proof.Kept.{effects-keep}
 use Rattle.series.specs.Proof.Preserved.{misses-beside}
 use Rattle.series.specs.Proof.Entries.{ordered, indexOf, part-found, part-held, command-held}
@@ -32,20 +34,6 @@ abbrev Held : List ℕ → ℕ → ℕ → List ℕ → Type 0
 Held image p n m = (length m ≡ n) × (take (length image) (drop p m) ≡ image)
 
 -- ---- a stretch that is permitted
-abbrev pub Stopped : Finish → Type 0
-Stopped (ends j) = Unit {0}
-Stopped (runs x j) = Unit {0}
-Stopped (denies x j) = ⊥
-
--- its first piece is permitted, and it ends as the others do
-stopped-first : (v : Permit) (t : ℕ) (x : Finish) → Stopped (or-deny v t x) → (v ≡ allowed) × (or-deny v t x ≡ x)
-stopped-first allowed t x s = (refl, refl)
-stopped-first (denied y) t x s = absurd s
-
-permitted-at : (f : Found) → ranged f ≡ allowed → f ≡ at (placeOf f)
-permitted-at (at q) e = refl
-permitted-at (refused y) e = let z : _≡_ {A = ℕ} 0 1 = cc in absurd (omega arith)
-
 -- the commands before the stop
 abbrev pub orders : ℕ → (image : List ℕ) (k : ℕ) (qs : List Piece) → Carries image k qs → List Command
 orders a image k [] c = []

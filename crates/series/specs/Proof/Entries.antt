@@ -22,11 +22,11 @@ use Rattle.memory_map.specs.Entry.{legal, kindAt, runEntry}
 use Rattle.plan.specs.Plan.{Piece, put, fill, run}
 use Rattle.plan.specs.Plan.Laws.{Packable}
 use Rattle.plan.specs.Meaning.{ranged, entered, permit, stretch, Finish, ends, runs, denies, or-deny, finish}
+use Rattle.aplx_image.specs.Carries.{EntryAt, Says, EndAt, Carries}
 use Rattle.aplx_look.specs.Command as command
 use Rattle.aplx_look.specs.Command.{Command, copy, exec, commandOf, commandAt}
 use Rattle.aplx_look.specs.Walk.{goes, halts, permitted, runOf, otherCommand, tests, judge, Walk, after, walkFor}
 use Rattle.series.specs.Medium.{aplx, endingIn}
-use Rattle.series.specs.Proof.Carries.{EntryAt, Says, EndAt, Carries}
 
 -- the command of a piece's entry, in an image at address a
 abbrev pub ordered : ℕ → (image : List ℕ) (k : ℕ) (x : Piece) → Says image k x → Command

@@ -17,7 +17,9 @@ use Rattle.memory_map.specs.Lookup.{Lookup, lookup}
 use Rattle.memory_map.specs.Lookup.Laws.{lawful}
 use Rattle.plan.specs.Plan.{Piece}
 use Rattle.plan.specs.Plan.Laws.{Packable}
-use Rattle.plan.specs.Meaning.{effects, stretch, Finish, ends, runs, denies, finish, meant, meaning}
+use Rattle.plan.specs.Meaning.{effects, stretch, Finish, ends, runs, denies, Stopped, finish, meant, meaning}
+use Rattle.aplx_image.specs.Carries.{Carries}
+use Rattle.aplx_image.specs.Carries.Laws.{carries-drop}
 use Rattle.aplx_look.specs.Command.{Command}
 use Rattle.aplx_look.specs.Walk.{Walk, walk, commands}
 use Rattle.aplx_look.specs.Look.{tested, look}
@@ -27,9 +29,8 @@ use Rattle.series.specs.Series.{Left}
 use Rattle.series.specs.Medium.{aplx, endingIn, Misses, InMemory}
 use Rattle.series.specs.Software.{ours}
 use Rattle.series.specs.Demand.{loads, means}
-use Rattle.series.specs.Proof.Carries.{Carries, carries-drop}
 use Rattle.series.specs.Proof.Entries.{indexOf, walkedTo, walk-stretch}
-use Rattle.series.specs.Proof.Commands.{Stopped, orders, orders-inside, orders-count, header-missed, commands-held, perform-stretch}
+use Rattle.series.specs.Proof.Commands.{orders, orders-inside, orders-count, header-missed, commands-held, perform-stretch}
 
 -- what a look at these commands with this end leaves, as compared
 abbrev leaves : Lookup → ℕ → List Command → Ending → List ℕ → Left
@@ -41,7 +42,7 @@ load-leaves : (find : Lookup) (m : List ℕ) (h : ℕ) → h % 4 ≡ 0 → (w : 
 unfolding loadWith look
 load-leaves find m h o w e = rw (eq-eqb _ _ o, e, ending-at)
 
-module _ (a : ℕ) (map : Map) (ps : List Piece) (image m : List ℕ) (i : ℕ) (few : length ps ≤ 64) (packable : All (Packable 32) ps)
+module _ (a : ℕ) (map : Map) (ps : List Piece) (image m : List ℕ) (i : ℕ) (few : length ps ≤ 255) (packable : All (Packable 32) ps)
     (carried : Carries image 0 ps) (is-sound : sound map (length m) ≡ true) (there : InMemory a map ps image m) (index : i ≤ length ps)
   where
     -- the pieces from i on, and their entries

@@ -2,7 +2,7 @@
 use mathlib.Core.Path.{_≡_, refl, _∙_, ap}
 use mathlib.Core.Bool.{true, false}
 use mathlib.Core.List.{List, [], _∷_, _++_}
-use Prim.Native.Nat.{ℕ, _-_}
+use Prim.Native.Nat.{ℕ, _-_, _≤_}
 use native.Mathlib.Omega.{arith}
 use lib.Dec.{ltb}
 use lib.ListN.{length, take, getD, replicate}
@@ -31,18 +31,18 @@ use Rattle.plan.specs.Meaning.{meaning}
 use Rattle.srom_pack.specs.Image.{packSrom}
 use Rattle.aplx_pack.specs.Image.{packAplx}
 use Rattle.series.specs.Series.{Step, Left, series}
-use Rattle.series.specs.Medium.{Medium, srom, aplx, Misses, Intact}
+use Rattle.series.specs.Medium.{Medium, srom, aplx, Misses, Intact, Spares}
 use Rattle.series.specs.Software.{Software, packed}
-use Rattle.series.specs.Demand.{loads, Granted, Demand3}
+use Rattle.series.specs.Demand.{loads, means, Granted, Demand3}
 
 -- ---- the map
 -- 128 bytes to read, for the image
 abbrev image-region : Region
 image-region = record { base = 4096; length = 128; place = 0; rights = record { read = true; write = false; run = false } }
 
--- 128 bytes to write, for what is loaded
+-- 128 bytes to write and run, for what is loaded
 abbrev load-region : Region
-load-region = record { base = 8192; length = 128; place = 128; rights = record { read = true; write = true; run = false } }
+load-region = record { base = 8192; length = 128; place = 128; rights = record { read = true; write = true; run = true } }
 
 unfoldable pub example : Map
 example = add (add emptyMap image-region .map) load-region .map
@@ -55,7 +55,7 @@ example-sound = refl
 unfoldable pub find : Lookup
 find = lookupIn (image-region ∷ load-region ∷ [])
 
-finds : lookup example ≡ find
+pub finds : lookup example ≡ find
 unfolding find example map-group.maps
 finds = lookup-is example
 
@@ -92,35 +92,38 @@ in-memory {image} e f g h = record {
   };
 }
 
--- ---- one load
--- of the whole plan, with no change after it
-abbrev once : List Step
-once = record { index = 0; changes = [] } ∷ []
-
-abbrev first : List Left → List ℕ
-first [] = []
-first (l ∷ ls) = l .memory
-
--- under demand 3, it leaves the bytes that the plan means
-module _ (s : Software) (demand : Demand3 s) (k : Medium) where
-  left :
-      {plan image : List ℕ} {ps : List Piece} → Reads plan ps → Lies k ps image → packed s k plan 256 ≡ packs image → (p : ℕ)
-      → getD (loads s k example ps image 0 (memoryWith image) .memory) p 0 ≡ getD (meaning find ps 0 (memoryWith image) .memory) p 0
-  unfolding series
-  left {plan} {image} {ps} reads lies e p =
-      let m = memoryWith image in
+-- ---- loads
+-- under demand 3, the loads of a series leave what the plan means
+module _ (s : Software) (demand : Demand3 s) (k : Medium) {plan image : List ℕ} {ps : List Piece} where
+  pub same-series :
+      Reads plan ps → Lies k ps image → packed s k plan 256 ≡ packs image → (steps : List Step) → All (λ t. t .index ≤ length ps) steps
+      → All (λ t. All (Spares k example image) (t .changes)) steps
+      → series (loads s k example ps image) steps (memoryWith image) ≡ series (means k example ps) steps (memoryWith image)
+  same-series reads lies e steps indices alone =
       let b : Bytes plan = all-map _ _ plan (λ x. ltb-true x 256) (every-all (λ b. ltb b 256) plan (reads .bytes)) in
       let h = demand k plan 256 image b e in
       let r = h .read in
       let t = reads .read in
       let q : ps ≡ h .pieces = cc in
-      let granted : Granted k example ps image m once = record {
+      let granted : Granted k example ps image (memoryWith image) steps = record {
         sound-map = rw (lies .sized) example-sound;
         intact = lies .intact;
-        indices = (omega arith, tt);
-        alone = (tt, tt);
+        indices = indices;
+        alone = alone;
       } in
-      rw (← q, finds) at (ap (λ (l : List Left). getD (first l) p 0) (h .same example m once (rw q at granted)))
+      rw (← q) at (h .same example (memoryWith image) steps (rw q at granted))
+
+  -- one load of the whole plan: the byte at place p
+  left :
+      Reads plan ps → Lies k ps image → packed s k plan 256 ≡ packs image → (p : ℕ)
+      → getD (loads s k example ps image 0 (memoryWith image) .memory) p 0 ≡ getD (meaning find ps 0 (memoryWith image) .memory) p 0
+  unfolding series
+  left reads lies e p =
+      rw finds at (ap (λ (l : List Left). getD (first l) p 0) (same-series reads lies e (record { index = 0; changes = [] } ∷ []) (omega arith, tt) (tt, tt)))
+    where
+      first : List Left → List ℕ
+      first [] = []
+      first (l ∷ ls) = l .memory
 
 -- ---- software with one part replaced
 abbrev pub packingSrom : (List ℕ → ℕ → Packed) → Software

@@ -5,7 +5,7 @@ use Prim.Native.Nat.{ℕ}
 use lib.ListN.{replicate}
 use Rattle.words.specs.Four.{fourBytes}
 use Rattle.words.specs.Open as words-group
-use Rattle.plan.specs.Plan.{Piece, put, fill}
+use Rattle.plan.specs.Plan.{Piece, put, fill, run}
 use Rattle.aplx_pack.specs.Open as aplx-pack-group
 use Rattle.series.specs.Refuted.Example.{Reads}
 
@@ -46,3 +46,14 @@ reads-18 = record { bytes = refl; read = refl }
 pub reads-20 : Reads (fillAndPut 20) (fill-and-put 20)
 unfolding fillAndPut words-group.tests aplx-pack-group.image
 reads-20 = record { bytes = refl; read = refl }
+
+-- ---- a fill of 32 bytes and a run, twice
+unfoldable pub twoRuns : List ℕ
+twoRuns = fourBytes 4 16 80 0 ++ (fourBytes 2 8192 32 1 ++ (fourBytes 3 8193 0 0 ++ (fourBytes 2 8224 32 2 ++ fourBytes 3 8197 0 0)))
+
+abbrev pub four-pieces : List Piece
+four-pieces = fill 8192 32 1 ∷ run 8193 ∷ fill 8224 32 2 ∷ run 8197 ∷ []
+
+pub reads-runs : Reads twoRuns four-pieces
+unfolding twoRuns words-group.tests aplx-pack-group.image
+reads-runs = record { bytes = refl; read = refl }

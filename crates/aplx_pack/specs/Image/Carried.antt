@@ -1,39 +1,22 @@
 -- The packed APLX image carries its pieces (paper 01, "Plans", demand 3).
-use mathlib.Core.Path.{_≡_, ap, sym, _∙_}
+use mathlib.Core.Path.{_≡_, ap, _∙_}
 use mathlib.Core.List.{List, [], _∷_, _++_, append-nil}
-use Prim.Native.Nat.{ℕ, suc, _+_, _*_, _%_, _≤_, _<_}
-use native.Mathlib.Nat.{add-zero, mod-eq-of-lt}
+use Prim.Native.Nat.{ℕ, suc, _+_, _*_, _%_, _≤_}
+use native.Mathlib.Nat.{mod-eq-of-lt}
 use native.Mathlib.Omega.{arith}
 use lib.ListN.{length, drop, length-append, length-drop}
 use lib.Seq.{drop-at, drop-drop}
 use Rattle.words.specs.Choice.{All}
-use Rattle.words.specs.Bytes.{littleEndian, firstBytes, littleEndianAt}
-use Rattle.words.specs.Bytes.Laws.{little-at-drop, little-at-front}
-use Rattle.words.specs.Four.{fourBytes}
-use Rattle.words.specs.Four.Laws.{length-fourBytes}
 use Rattle.plan.specs.Plan.{Piece, put, fill, run, dataOf}
 use Rattle.plan.specs.Plan.Laws.{Packable}
 use Rattle.plan.specs.Plan.Sums.{bytes-most}
+use Rattle.aplx_image.specs.Carries.{Says, Carries}
+use Rattle.aplx_image.specs.Carries.Laws.{entry-here}
 use Rattle.aplx_pack.specs.Image.{entryOf, entries, datas, aplxImage}
 use Rattle.aplx_pack.specs.Image.Laws.{length-entryOf, length-entries, length-aplxImage, tail, tail-step, image-tail, put-data}
-use Rattle.series.specs.Proof.Carries.{EntryAt, Says, Carries}
 
--- an image in which this stands from offset k on
+-- an image in which the entries of these pieces, and all the data, stand from offset k on
 module _ (image : List ℕ) (k : ℕ) where
-  -- an entry, and more
-  entry-here : (c x y z : ℕ) (rest : List ℕ) → drop k image ≡ fourBytes c x y z ++ rest
-      → c < 4294967296 → x < 4294967296 → y < 4294967296 → z < 4294967296 → EntryAt image k c x y z
-  unfolding fourBytes littleEndian littleEndianAt firstBytes
-  entry-here c x y z rest e hc hx hy hz =
-      let w : (j : ℕ) → littleEndianAt 4 image (k + j) ≡ littleEndianAt 4 (fourBytes c x y z ++ rest) j = λ j. sym (little-at-drop 4 k j image) ∙ ap (λ (s : List ℕ). littleEndianAt 4 s j) e in
-      record {
-        whole = omega (arith, length-drop k image, ap length e ∙ length-append (fourBytes c x y z) rest, length-fourBytes c x y z);
-        command = rw (add-zero k) at (w 0) ∙ little-at-front 4 c [] hc;
-        first = w 4 ∙ little-at-front 4 x [] hx;
-        second = w 8 ∙ little-at-front 4 y [] hy;
-        third = w 12 ∙ little-at-front 4 z [] hz;
-      }
-
   -- the entry of a piece, and the rest
   piece-here : (d : List ℕ) (p : Piece) (ps : List Piece) → drop k image ≡ tail d (p ∷ ps) → k % 4 ≡ 0 → length d % 4 ≡ 0
       → length image ≤ 4294967280 → Packable 32 p → Says image k p
@@ -45,19 +28,19 @@ module _ (image : List ℕ) (k : ℕ) where
       record {
         offset = off;
         source = k + off;
-        entry = entry-here 2 a off (length b) _ (e ∙ tail-step d (put a b) ps) (omega arith) (g .low) (omega arith) (omega (arith, g .most));
+        entry = entry-here image k 2 a off (length b) _ (e ∙ tail-step d (put a b) ps) (omega arith) (g .low) (omega arith) (omega (arith, g .most));
         from-here = mod-eq-of-lt (omega (arith, g .some));
         aligned = omega arith;
         inside = s;
         bytes = rw (← drop-drop off k image, e) (put-data d a b ps);
       }
   piece-here d (fill a n w) ps e h o most g =
-      entry-here 3 a n w _ (e ∙ tail-step d (fill a n w) ps) (omega arith) (g .0 .low) (omega (arith, g .0 .most)) (g .1)
+      entry-here image k 3 a n w _ (e ∙ tail-step d (fill a n w) ps) (omega arith) (g .0 .low) (omega (arith, g .0 .most)) (g .1)
   piece-here d (run a) ps e h o most g =
-      record { second = 0; third = 0; entry = entry-here 4 a 0 0 _ (e ∙ tail-step d (run a) ps) (omega arith) (g .0) (omega arith) (omega arith) }
+      record { second = 0; third = 0; entry = entry-here image k 4 a 0 0 _ (e ∙ tail-step d (run a) ps) (omega arith) (g .0) (omega arith) (omega arith) }
 
   -- behind that entry
-  piece-behind : (d : List ℕ) (p : Piece) (ps : List Piece) → drop k image ≡ tail d (p ∷ ps) → drop (k + 16) image ≡ tail (d ++ dataOf p) ps
+  pub piece-behind : (d : List ℕ) (p : Piece) (ps : List Piece) → drop k image ≡ tail d (p ∷ ps) → drop (k + 16) image ≡ tail (d ++ dataOf p) ps
   piece-behind d p ps e =
       let off = 16 * suc (suc (length ps)) + length d in
       rw (← drop-drop 16 k image, e, tail-step d p ps) (drop-at (entryOf p off) (tail (d ++ dataOf p) ps) 16 (length-entryOf p off))
@@ -85,6 +68,6 @@ carries-tail image k d (p ∷ ps) e h o most g = (
 pub packed-carries : (ps : List Piece) → length (aplxImage ps) ≤ 4294967280 → All (Packable 32) ps → Carries (aplxImage ps) 0 ps
 packed-carries ps most g = carries-tail (aplxImage ps) 0 [] ps (image-tail ps) (omega arith) (omega arith) most g
 
--- ---- the image of pieces that a plan may have is that short
-pub image-short : (ps : List Piece) → length ps ≤ 64 → All (Packable 32) ps → length (aplxImage ps) ≤ 4294967280
+-- ---- the image of as many pieces as a load can read is that short
+pub image-short : (ps : List Piece) → length ps ≤ 255 → All (Packable 32) ps → length (aplxImage ps) ≤ 4294967280
 image-short ps few g = omega (arith, length-aplxImage ps, bytes-most 32 ps g)

@@ -1,0 +1,47 @@
+-- Laws of images that carry pieces: their entries lie within them, and from each piece's entry on they carry the pieces from it on.
+use mathlib.Core.Path.{_≡_, ap, sym, _∙_}
+use mathlib.Core.List.{List, [], _∷_, _++_}
+use Prim.Native.Nat.{ℕ, zero, suc, _+_, _*_, _≤_, _<_}
+use native.Mathlib.Nat.{add-zero}
+use native.Mathlib.Omega.{arith}
+use lib.ListN.{length, drop, length-append, length-drop}
+use Rattle.words.specs.Bytes.{littleEndian, firstBytes, littleEndianAt}
+use Rattle.words.specs.Bytes.Laws.{little-at-drop, little-at-front}
+use Rattle.words.specs.Four.{fourBytes}
+use Rattle.words.specs.Four.Laws.{length-fourBytes}
+use Rattle.plan.specs.Plan.{Piece, put, fill, run}
+use Rattle.aplx_image.specs.Carries.{EntryAt, EndAt, Says, Carries}
+
+-- four words that stand at offset k are the entry there
+pub entry-here : (image : List ℕ) (k c x y z : ℕ) (rest : List ℕ) → drop k image ≡ fourBytes c x y z ++ rest
+    → c < 4294967296 → x < 4294967296 → y < 4294967296 → z < 4294967296 → EntryAt image k c x y z
+unfolding fourBytes littleEndian littleEndianAt firstBytes
+entry-here image k c x y z rest e hc hx hy hz = record {
+  whole = omega (arith, length-drop k image, ap length e ∙ length-append (fourBytes c x y z) rest, length-fourBytes c x y z);
+  command = rw (add-zero k) at (word 0) ∙ little-at-front 4 c [] hc;
+  first = word 4 ∙ little-at-front 4 x [] hx;
+  second = word 8 ∙ little-at-front 4 y [] hy;
+  third = word 12 ∙ little-at-front 4 z [] hz;
+}
+  where
+    word : (j : ℕ) → littleEndianAt 4 image (k + j) ≡ littleEndianAt 4 (fourBytes c x y z ++ rest) j
+    word j = sym (little-at-drop 4 k j image) ∙ ap (λ (s : List ℕ). littleEndianAt 4 s j) e
+
+-- an entry lies within the image
+pub says-whole : (image : List ℕ) (k : ℕ) (p : Piece) → Says image k p → k + 16 ≤ length image
+says-whole image k (put a d) s = s .entry .whole
+says-whole image k (fill a n w) s = s .whole
+says-whole image k (run a) s = s .entry .whole
+
+-- the end too
+pub carries-whole : (image : List ℕ) (k : ℕ) (ps : List Piece) → Carries image k ps → k + 16 ≤ length image
+carries-whole image k [] c = let e : EndAt image k = c in e .entry .whole
+carries-whole image k (p ∷ ps) c = says-whole image k p (c .0)
+
+-- from the entry of piece i on it carries the pieces from i on
+pub carries-drop : (image : List ℕ) (i k : ℕ) (ps : List Piece) → i ≤ length ps → Carries image k ps → Carries image (k + 16 * i) (drop i ps)
+carries-drop image zero k ps h c = let e : k + 16 * 0 ≡ k = omega arith in rw e c
+carries-drop image (suc i) k [] h c = absurd (omega arith)
+carries-drop image (suc i) k (p ∷ ps) h c =
+    let e : k + 16 * suc i ≡ k + 16 + 16 * i = omega arith in
+    rw e (carries-drop image i (k + 16) ps (omega arith) (c .1))
