@@ -1,25 +1,24 @@
--- Two items of the code that say the same are the same, so that an equation of what they say decides the item.
-use mathlib.Core.Path.{_≡_, ap}
-use Prim.Native.Nat.{ℕ}
-use native.Mathlib.Omega.{arith}
-use Rattle.outcome.specs.Outcome.{stopOf}
-use Rattle.outcome.specs.Outcome.Injective.{refusal-injective, stop-injective}
-use Rattle.srom.specs.declared.walk.Item.{Item}
+-- An item of the code can be read back from what it says. So two that say the same are the same, and an equation of what an item says
+-- decides it.
+use mathlib.Core.Path.{_≡_, refl, ap}
+use Rattle.outcome.specs.Outcome.{stops, refuses}
+use Rattle.outcome.specs.Outcome.Injective.{back-injective, refusalBack, stopBack, stop-back}
+use Rattle.srom.specs.declared.walk.Item as code
 use Rattle.srom.specs.declared.walk.Item.the-variants.{Block, Halt, Refused}
+use Rattle.srom.specs.Walk.{Item, pad, block, halt}
 use Rattle.srom.specs.Code.{itemOf}
 
-pub item-injective : (x y : Item) → itemOf x ≡ itemOf y → x ≡ y
-item-injective (Block a p b e) (Block c q d f) h = cc
-item-injective (Block a p b e) (Halt t) h = let z : _≡_ {A = ℕ} 0 1 = cc in absurd (omega arith)
-item-injective (Block a p b e) (Refused r) h = let z : _≡_ {A = ℕ} 0 1 = cc in absurd (omega arith)
-item-injective (Halt t) (Block c q d f) h = let z : _≡_ {A = ℕ} 0 1 = cc in absurd (omega arith)
-item-injective (Halt t) (Halt u) h =
-    let e : stopOf t ≡ stopOf u = cc in
-    ap Halt (stop-injective t u e)
-item-injective (Halt t) (Refused r) h = let z : _≡_ {A = ℕ} 0 1 = cc in absurd (omega arith)
-item-injective (Refused r) (Block c q d f) h = let z : _≡_ {A = ℕ} 0 1 = cc in absurd (omega arith)
-item-injective (Refused r) (Halt u) h = let z : _≡_ {A = ℕ} 0 1 = cc in absurd (omega arith)
-item-injective (Refused r) (Refused s) h =
-    let n : r .number ≡ s .number = cc in
-    let p : r .place ≡ s .place = cc in
-    ap Refused (refusal-injective r s n p)
+-- no item of the code says that a pad stands there: any does for it
+abbrev itemBack : Item → code.Item
+itemBack pad = Block 0 0 0 0
+itemBack (block a p b e) = Block a p b e
+itemBack (halt (stops s)) = Halt (stopBack s)
+itemBack (halt (refuses n p)) = Refused (refusalBack n p)
+
+item-back : (x : code.Item) → itemBack (itemOf x) ≡ x
+item-back (Block a p b e) = refl
+item-back (Halt t) = ap Halt (stop-back t)
+item-back (Refused r) = refl
+
+pub item-injective : (x y : code.Item) → itemOf x ≡ itemOf y → x ≡ y
+item-injective = back-injective itemOf itemBack item-back
