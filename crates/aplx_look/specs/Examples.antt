@@ -8,7 +8,7 @@ use Rattle.words.specs.Four.{fourBytes}
 use Rattle.memory_map.specs.declared.region.Region.{Region}
 use Rattle.outcome.specs.Outcome.{Outcome, refused, accepted, end, unknown, run, arm, thumb}
 use Rattle.memory_map.specs.Lookup.{Lookup, lookupIn}
-use Rattle.aplx_look.specs.Look.{look, outcomeOfLook}
+use Rattle.aplx_look.specs.Look.{destinations, look, outcomeOfLook}
 use Rattle.aplx_look.specs.Open as group
 
 -- 256 bytes at address 4096 with every right, then 64 bytes at 8192 that may only be read
@@ -45,6 +45,13 @@ record Lengths : Type 0 where
 lengths : Lengths
 unfolding outcome memory last find group.looks
 lengths = record { zero = refl; one = refl; whole = refl; over = refl; longest = refl }
+
+-- a fill, a copy, and the fill again: a destination for each, in order
+destinations-are :
+    destinations (look find (memory (entry 3 4224 1 9 ++ (entry 1 4256 4096 33 ++ (entry 3 4224 1 9 ++ last)))) 4096 .commands)
+    ≡ record { address = 4224; length = 32 } ∷ record { address = 4256; length = 64 } ∷ record { address = 4224; length = 32 } ∷ []
+unfolding memory last find group.looks
+destinations-are = refl
 
 -- stops and refusals
 record Stops : Type 0 where

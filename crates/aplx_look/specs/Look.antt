@@ -1,27 +1,41 @@
 -- What an APLX load answers (paper 01, "APLX"). Nothing is stored.
 pub mod Header
 pub mod Laws
-use mathlib.Core.Bool.{Bool, false}
-use mathlib.Core.List.{List, [], _∷_}
-use Prim.Native.Nat.{ℕ, suc, _+_, _*_, _%_}
+use mathlib.Core.Bool.{Bool, false, _||_}
+use mathlib.Core.List.{List, [], _∷_, _++_}
+use Prim.Native.Nat.{ℕ, suc, _*_, _%_}
 use lib.Dec.{eqb}
 use lib.ListN.{length}
 use Rattle.words.specs.Choice.{if_then_else_}
 use Rattle.words.specs.Range.{meets}
 use Rattle.memory_map.specs.declared.map.Map.{Map}
 use Rattle.outcome.specs.Outcome.{Ending, stops, refuses, Outcome, outcomeAt}
+use Rattle.outcome.specs.Destinations.{Range, storedIn}
 use Rattle.memory_map.specs.Map.{sound}
 use Rattle.memory_map.specs.Lookup.{Lookup, lookup}
 use Rattle.aplx_look.specs.Command.{Command, copy, fill, exec, other}
 use Rattle.aplx_look.specs.Walk.{walk, commands}
 
+-- ---- destinations
+-- the ranges that a command stores to: its "rounded destination", or none
+abbrev pub destinationsOf : Command → List Range
+destinationsOf (copy d s n) = record { address = d; length = n } ∷ []
+destinationsOf (fill d n w) = record { address = d; length = n } ∷ []
+destinationsOf (exec x) = []
+destinationsOf (other c) = []
+
+unfoldable pub destinations : List Command → List Range
+destinations [] = []
+destinations (c ∷ cs) = destinationsOf c ++ destinations cs
+
 -- ---- the test for 8
--- the destination shares a byte with k addresses from h on
+-- one of the ranges shares a byte with k addresses from h on
+abbrev pub anyMeets : ℕ → ℕ → List Range → Bool
+anyMeets h k [] = false
+anyMeets h k (r ∷ rs) = anyMeets h k rs || meets (r .address) (r .length) h k
+
 unfoldable pub meetsHeader : ℕ → ℕ → Command → Bool
-meetsHeader h k (copy d s n) = meets d n h k
-meetsHeader h k (fill d n w) = meets d n h k
-meetsHeader h k (exec x) = false
-meetsHeader h k (other c) = false
+meetsHeader h k c = anyMeets h k (destinationsOf c)
 
 -- "8: the first entry whose rounded destination shares a byte with any entry read"; the first of the commands has index i
 unfoldable pub headerTest : ℕ → ℕ → List Command → ℕ → Ending → Ending
@@ -32,18 +46,6 @@ headerTest h k (c ∷ cs) i x = if meetsHeader h k c then refuses 8 i else heade
 abbrev pub tested : ℕ → List Command → Ending → Ending
 tested h cs (stops s) = headerTest h (16 * suc (length cs)) cs 0 (stops s)
 tested h cs (refuses n p) = refuses n p
-
--- ---- the bytes that the commands store
--- "how many bytes it stored, each byte counted every time it is stored"
-abbrev pub bytesOf : Command → ℕ
-bytesOf (copy d s n) = n
-bytesOf (fill d n w) = n
-bytesOf (exec x) = 0
-bytesOf (other c) = 0
-
-unfoldable pub bytesIn : List Command → ℕ
-bytesIn [] = 0
-bytesIn (c ∷ cs) = bytesOf c + bytesIn cs
 
 -- ---- the look
 -- what the tests give: the commands before the end, and the end
@@ -66,5 +68,6 @@ aplxLook map m h =
     if sound map (length m) then look (lookup map) m h
     else record { commands = []; ending = refuses 1 0 }
 
+-- the outcome, with "how many entries or blocks it took before the stop and how many bytes it stored"
 abbrev pub outcomeOfLook : Look → Outcome
-outcomeOfLook l = outcomeAt (l .ending) (length (l .commands)) (bytesIn (l .commands))
+outcomeOfLook l = outcomeAt (l .ending) (length (l .commands)) (storedIn (destinations (l .commands)))

@@ -1,26 +1,26 @@
 // The test for destinations over the entries, and the bytes that the commands store.
 ghost use mathlib.Core.Path.{_≡_};
 ghost use mathlib.Core.Bool.{true};
-ghost use Prim.Native.Nat.{suc, _*_, _<_};
+ghost use Prim.Native.Nat.{_<_};
 ghost use lib.ListN.{length};
 ghost use Rattle.memory_map.specs.Map.{sound};
-ghost use Rattle.outcome.specs.Outcome as outcome;
+ghost use Rattle.outcome.specs.Outcome.{stops, stopOf, outcomeOf};
 ghost use Rattle.memory_map.specs.Lookup.{lookup};
 ghost use Rattle.aplx_look.specs.Walk.{commands};
 ghost use Rattle.aplx_look.specs.Walk.Laws.{Passed};
-ghost use Rattle.aplx_look.specs.Look.{meetsHeader, bytesOf, headerTest, bytesIn};
-ghost use Rattle.aplx_look.specs.Code.{commandIs, headerIs, StoredIs};
+ghost use Rattle.aplx_look.specs.Look.{meetsHeader, lookOf, outcomeOfLook};
+ghost use Rattle.aplx_look.specs.Look.Header.{bytesOf};
+ghost use Rattle.aplx_look.specs.Code.{commandIs};
 use crate::command::Command;
 use memory_map::map::Map;
 use memory_map::map::place;
 use memory_map::region::Right;
+use outcome::answer::Answer;
+use outcome::answer::Refusal;
+use outcome::answer::Stop;
 
-pub(crate) enum Header {
-    // no destination meets an entry; so many bytes are stored
-    Clear { stored: u64 },
-    // the destination of the entry with this index does
-    Met { index: usize },
-}
+// The refusal of a destination over the entries read.
+const MEETS_HEADER: u32 = 8;
 
 // Whether the destination shares a byte with so many addresses from the header on.
 fn meets_header(command: Command, header: u32, size: u64) -> bool
@@ -62,11 +62,10 @@ fn bytes_of(command: Command) -> u64
     }
 }
 
-// The entries that the walk passed, one after the other.
-pub(crate) fn check_header(map: Map, memory: &[u8], header: u32, count: usize) -> Header
+// The answer of a load whose walk passed so many entries and then found its stop.
+pub(crate) fn check_header(map: Map, memory: &[u8], header: u32, count: usize, stop: Stop) -> Answer
     requires { ⌜ (sound map (length (now memory)) ≡ true) × Passed (lookup map) (now memory) header count × (count < 256) ⌝ }
-    ensures { λ r. ⌜ ((x : outcome.Ending) → headerTest header (16 * suc count) (commands (lookup map) (now (memory .entry)) header count) 0 x ≡ headerIs r x) ⌝ }
-    ensures { λ r. ⌜ StoredIs r (bytesIn (commands (lookup map) (now (memory .entry)) header count)) ⌝ }
+    ensures { λ r. ⌜ outcomeOf r ≡ outcomeOfLook (lookOf header (commands (lookup map) (now (memory .entry)) header count) (stops (stopOf stop))) ⌝ }
 {
     let size = 16 * (count as u64 + 1);
     let mut address = header;
@@ -76,11 +75,18 @@ pub(crate) fn check_header(map: Map, memory: &[u8], header: u32, count: usize) -
         let entry = place(map.lookup(Right::Read, address, 16));
         let command = crate::command::command_at(memory, entry, address);
         if meets_header(command, header, size) {
-            return Header::Met { index: i };
+            return Answer::Refused(Refusal {
+                number: MEETS_HEADER,
+                place: i,
+            });
         }
         stored += bytes_of(command);
         address += 16;
         i += 1;
     }
-    Header::Clear { stored }
+    Answer::Accepted {
+        stop,
+        taken: count,
+        stored,
+    }
 }

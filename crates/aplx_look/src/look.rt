@@ -7,16 +7,12 @@ ghost use Rattle.outcome.specs.Outcome.{outcomeOf};
 ghost use Rattle.memory_map.specs.Map.{sound};
 ghost use Rattle.memory_map.specs.Lookup.{lookup};
 ghost use Rattle.aplx_look.specs.Look.{look, aplxLook, outcomeOfLook};
-use crate::header::Header;
 use crate::walk::Ending;
 use memory_map::map::Map;
 use memory_map::refusal::MAP_NOT_SOUND;
 use outcome::answer::Answer;
 use outcome::answer::NOT_ALIGNED;
 use outcome::answer::Refusal;
-
-// The refusal of a destination over the entries read.
-const MEETS_HEADER: u32 = 8;
 
 // The answer of a load with a sound map, from a header address that is a multiple of 4.
 fn look_entries(map: Map, memory: &[u8], header: u32) -> Answer
@@ -28,17 +24,7 @@ fn look_entries(map: Map, memory: &[u8], header: u32) -> Answer
     let ending = walked.ending;
     match ending {
         Ending::Refused(refusal) => Answer::Refused(refusal),
-        Ending::Stops(stop) => match crate::header::check_header(map, memory, header, count) {
-            Header::Met { index } => Answer::Refused(Refusal {
-                number: MEETS_HEADER,
-                place: index,
-            }),
-            Header::Clear { stored } => Answer::Accepted {
-                stop,
-                taken: count,
-                stored,
-            },
-        },
+        Ending::Stops(stop) => crate::header::check_header(map, memory, header, count, stop),
     }
 }
 

@@ -1,4 +1,5 @@
 -- Run addresses (paper 01, "Memory map", third paragraph).
+pub mod Injective
 use mathlib.Core.Bool.{Bool, false}
 use Prim.Native.Nat.{ℕ, _-_, _%_}
 use lib.Dec.{eqb}

@@ -3,6 +3,5 @@ pub mod Region
 pub mod Map
 pub mod Lookup
 pub mod Entry
-pub mod Injective
 pub mod Open
 pub mod Examples

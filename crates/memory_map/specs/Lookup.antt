@@ -1,5 +1,6 @@
 -- Lookup (paper 01, "Memory map"): the buffer place of a permitted range. `lookup` is shut; its laws stand below it.
 pub mod Laws
+pub mod Injective
 use mathlib.Core.Bool.{Bool, true, false}
 use mathlib.Core.List.{List, [], _∷_}
 use Prim.Native.Nat.{ℕ}

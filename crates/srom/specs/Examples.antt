@@ -8,7 +8,7 @@ use Rattle.words.specs.Bytes.{littleEndianAt}
 use Rattle.memory_map.specs.declared.region.Region.{Region}
 use Rattle.outcome.specs.Outcome.{refused, accepted, end, run, arm, thumb}
 use Rattle.memory_map.specs.Lookup.{Lookup, lookupIn}
-use Rattle.srom.specs.Load.{loadWith}
+use Rattle.srom.specs.Load.{destinations, look, loadWith}
 use Rattle.srom.specs.Open as group
 
 -- the top 32 bytes of System RAM, to read and write; and 32 bytes from 0x7fe0 on, to run
@@ -33,6 +33,7 @@ dump =
 
 record SecondDump : Type 0 where
   pub outcome : loadWith find dump 0 memory .outcome ≡ accepted (end 40) 1 32
+  pub destination : destinations (look find dump 0 .blocks) ≡ record { address = 0xf5007fe0; length = 32 } ∷ []
   pub flags : littleEndianAt 2 (loadWith find dump 0 memory .memory) 0 ≡ 0x8081
   pub ip-address : take 4 (drop 8 (loadWith find dump 0 memory .memory)) ≡ 0x82 ∷ 0x58 ∷ 0xc1 ∷ 0x88 ∷ []
   pub port : littleEndianAt 2 (loadWith find dump 0 memory .memory) 20 ≡ 17893
@@ -40,7 +41,7 @@ record SecondDump : Type 0 where
 
 second-dump : SecondDump
 unfolding dump find group.load
-second-dump = record { outcome = refl; flags = refl; ip-address = refl; port = refl; rest = refl }
+second-dump = record { outcome = refl; destination = refl; flags = refl; ip-address = refl; port = refl; rest = refl }
 
 -- the first dump of document 004: 7 words, then a run of 0x7fe0, then the end. Its data is not given: here each word is 0x01020304
 words : ℕ → List ℕ

@@ -1,21 +1,22 @@
 -- The load of a serial ROM (paper 01, "Serial ROM").
 pub mod Laws
 use mathlib.Core.List.{List, [], _∷_}
-use Prim.Native.Nat.{ℕ, _+_}
+use Prim.Native.Nat.{ℕ}
 use lib.Dec.{ltb}
 use lib.ListN.{length}
 use Rattle.words.specs.Choice.{if_then_else_}
 use Rattle.words.specs.Store.{store}
 use Rattle.memory_map.specs.declared.map.Map.{Map}
 use Rattle.outcome.specs.Outcome.{Outcome, refuses, outcomeAt, memoryAt, Loaded}
+use Rattle.outcome.specs.Destinations.{Range, storedIn}
 use Rattle.memory_map.specs.Map.{sound}
 use Rattle.memory_map.specs.Lookup.{Lookup, lookup}
 use Rattle.srom.specs.Walk.{Block, Walk, walk}
 
--- "how many bytes it stored, each byte counted every time it is stored"
-unfoldable pub bytesIn : List Block → ℕ
-bytesIn [] = 0
-bytesIn (b ∷ bs) = length (b .bytes) + bytesIn bs
+-- the ranges that the blocks are stored to
+unfoldable pub destinations : List Block → List Range
+destinations [] = []
+destinations (b ∷ bs) = record { address = b .address; length = length (b .bytes) } ∷ destinations bs
 
 -- the blocks in order, each on the memory that the earlier ones left
 unfoldable pub storeBlocks : List Block → List ℕ → List ℕ
@@ -36,7 +37,7 @@ sromLook map n s o =
 
 -- the outcome, with "how many entries or blocks it took before the stop and how many bytes it stored"
 abbrev pub outcomeOfWalk : Walk → Outcome
-outcomeOfWalk w = outcomeAt (w .ending) (length (w .blocks)) (bytesIn (w .blocks))
+outcomeOfWalk w = outcomeAt (w .ending) (length (w .blocks)) (storedIn (destinations (w .blocks)))
 
 -- "Blocks are checked up to the stop before the first byte is stored."
 abbrev pub loaded : Walk → List ℕ → Loaded

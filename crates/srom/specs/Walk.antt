@@ -16,28 +16,23 @@ use Rattle.memory_map.specs.Lookup.{Lookup, Found}
 use Rattle.memory_map.specs.Entry as entry
 use Rattle.memory_map.specs.Entry.{RunEntry, runEntry}
 
--- a block with data: the bytes that memory gets, and their place in the buffer
-pub record Block : Type 0 where
-  pub place : ℕ
-  pub bytes : List ℕ
-
 -- what stands at an offset
 pub data Item : Type 0 where
   pad : Item
-  block : Block → ℕ → Item  -- and the offset after it
+  block : ℕ → ℕ → ℕ → ℕ → Item  -- address, its place in the buffer, the offset of the data, the offset after it
   halt : Ending → Item
 
--- the block at offset o, with its bytes d and the offset e after it, where its range was found; 4 where it was not
-abbrev pub placed : Found → List ℕ → ℕ → ℕ → Item
-placed (map.at p) d o e = block (record { place = p; bytes = d }) e
-placed (map.refused x) d o e = halt (refuses x o)
+-- the block at offset o for address a, with the offset e after it, where its range was found; 4 where it was not
+abbrev pub placed : Found → ℕ → ℕ → ℕ → Item
+placed (map.at p) a o e = block a p (o + 7) e
+placed (map.refused x) a o e = halt (refuses x o)
 
--- the block at offset o of n words for address a: 3, then 2 for its data, then 4. "Each word is stored Little Endian."
+-- the block at offset o of n words for address a: 3, then 2 for its data, then 4
 unfoldable pub dataBlock : Lookup → List ℕ → ℕ → ℕ → ℕ → Item
 dataBlock find s o n a =
     if not (eqb (a % 4) 0) then halt (refuses 3 o)
     else if ltb (length s) (o + 7 + 4 * n) then halt (refuses 2 o)
-    else placed (find Write a (4 * n)) (swapWords (take (4 * n) (drop (o + 7) s))) o (o + 7 + 4 * n)
+    else placed (find Write a (4 * n)) a o (o + 7 + 4 * n)
 
 -- "Length 0 is a run of the address, not an empty load; resume is the offset after the block." 9 where it is not legal
 abbrev pub runOf : RunEntry → ℕ → Item
@@ -60,20 +55,31 @@ itemAt find s o =
     else if eqb (getD s o 0) 0x3a then blockAt find s o
     else halt (stops (end o))
 
+-- a block with data: its address, the place of that in the buffer, and the bytes that memory gets
+pub record Block : Type 0 where
+  pub address : ℕ
+  pub place : ℕ
+  pub bytes : List ℕ
+
+-- "Each word is stored Little Endian.": the block for address a, at place p, whose data stands in s from offset b to e
+abbrev pub blockIn : List ℕ → ℕ → ℕ → ℕ → ℕ → Block
+blockIn s a p b e = record { address = a; place = p; bytes = swapWords (take (e - b) (drop b s)) }
+
 -- the blocks before the end, and the end
 pub record Walk : Type 0 where
   pub blocks : List Block
   pub ending : Ending
 
-abbrev pub after : Item → ℕ → (ℕ → Walk) → Walk
-after pad o go = go (o + 1)
-after (block b e) o go = record { blocks = b ∷ go e .blocks; ending = go e .ending }
-after (halt x) o go = record { blocks = []; ending = x }
+-- the walk of s from offset o on, by what stands there, and by the walk from a later offset on
+abbrev pub after : List ℕ → Item → ℕ → (ℕ → Walk) → Walk
+after s pad o go = go (o + 1)
+after s (block a p b e) o go = record { blocks = blockIn s a p b e ∷ go e .blocks; ending = go e .ending }
+after s (halt x) o go = record { blocks = []; ending = x }
 
 -- item by item, of which there are f at most
 unfoldable pub walkFor : ℕ → Lookup → List ℕ → ℕ → Walk
 walkFor zero find s o = record { blocks = []; ending = refuses 2 (length s) }
-walkFor (suc f) find s o = after (itemAt find s o) o (walkFor f find s)
+walkFor (suc f) find s o = after s (itemAt find s o) o (walkFor f find s)
 
 -- an item takes one byte at least, so these are enough (`walk-enough`, in the laws)
 unfoldable pub walk : Lookup → List ℕ → ℕ → Walk

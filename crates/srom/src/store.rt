@@ -19,7 +19,12 @@ pub(crate) fn store_blocks(map: Map, memory: &mut [u8], s: &[u8], offset: usize)
     loop {
         let at = crate::walk::pads_end(s, next);
         match crate::walk::item_at(map, s, at) {
-            Item::Block { place, from, to } => {
+            Item::Block {
+                address: _,
+                place,
+                from,
+                to,
+            } => {
                 word_blocks::swap::put(memory, place, &s[from..to]);
                 next = to;
             }

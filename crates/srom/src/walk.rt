@@ -1,7 +1,6 @@
 // What stands at an offset of the ROM, and the walk to the stop. Nothing is stored.
 ghost use mathlib.Core.Path.{_≡_};
-ghost use mathlib.Core.List.{List};
-ghost use Prim.Native.Nat.{ℕ, _+_, _≤_, _<_};
+ghost use Prim.Native.Nat.{_+_, _≤_, _<_};
 ghost use lib.ListN.{length, getD};
 ghost use Rattle.outcome.specs.Outcome.{outcomeOf};
 ghost use Rattle.memory_map.specs.Lookup.{lookup};
@@ -26,6 +25,7 @@ const START: u8 = 0x3a;
 // An item that is no pad. A block's data stands from `from` to `to`, where the next item begins.
 pub(crate) enum Item {
     Block {
+        address: u32,
         place: usize,
         from: usize,
         to: usize,
@@ -54,7 +54,7 @@ pub(crate) fn pads_end(s: &[u8], offset: usize) -> usize
 // A block without data, at an offset: a run.
 fn run_item(map: Map, at: usize, address: u32) -> Item
     requires { ⌜ at + 7 ≤ 16777216 ⌝ }
-    ensures { λ r. ⌜ ((s : List ℕ) → itemOf s r ≡ runOf (runEntry (lookup map) address) at) ⌝ }
+    ensures { λ r. ⌜ itemOf r ≡ runOf (runEntry (lookup map) address) at ⌝ }
 {
     match map.run_entry(address) {
         RunEntry::Legal(entry) => {
@@ -68,7 +68,7 @@ fn run_item(map: Map, at: usize, address: u32) -> Item
 // A block of so many words for an address, at an offset.
 fn data_item(map: Map, s: &[u8], at: usize, words: u16, address: u32) -> Item
     requires { ⌜ (at + 7 ≤ length (now s)) × (length (now s) ≤ 16777216) ⌝ }
-    ensures { λ r. ⌜ itemOf (now (s .entry)) r ≡ dataBlock (lookup map) (now (s .entry)) at words address ⌝ }
+    ensures { λ r. ⌜ itemOf r ≡ dataBlock (lookup map) (now (s .entry)) at words address ⌝ }
 {
     if address % 4 != 0 {
         return Item::Refused(Refusal {
@@ -86,6 +86,7 @@ fn data_item(map: Map, s: &[u8], at: usize, words: u16, address: u32) -> Item
     }
     match map.lookup(Right::Write, address, size as u64) {
         Found::At(place) => Item::Block {
+            address,
             place,
             from,
             to: from + size,
@@ -97,7 +98,7 @@ fn data_item(map: Map, s: &[u8], at: usize, words: u16, address: u32) -> Item
 // The block whose start byte is at an offset.
 fn block_item(map: Map, s: &[u8], at: usize) -> Item
     requires { ⌜ (at < length (now s)) × (length (now s) ≤ 16777216) ⌝ }
-    ensures { λ r. ⌜ itemOf (now (s .entry)) r ≡ blockAt (lookup map) (now (s .entry)) at ⌝ }
+    ensures { λ r. ⌜ itemOf r ≡ blockAt (lookup map) (now (s .entry)) at ⌝ }
 {
     if s.len() - at < 7 {
         return Item::Refused(Refusal {
@@ -118,7 +119,7 @@ fn block_item(map: Map, s: &[u8], at: usize) -> Item
 // The item at an offset where no pad stands.
 pub(crate) fn item_at(map: Map, s: &[u8], at: usize) -> Item
     requires { ⌜ (length (now s) ≤ 16777216) × (at < length (now s) → getD (now s) at 0 ≡ 0x55 → ⊥) ⌝ }
-    ensures { λ r. ⌜ itemOf (now (s .entry)) r ≡ itemAt (lookup map) (now (s .entry)) at ⌝ }
+    ensures { λ r. ⌜ itemOf r ≡ itemAt (lookup map) (now (s .entry)) at ⌝ }
 {
     if at >= s.len() {
         return Item::Refused(Refusal {
@@ -143,7 +144,12 @@ pub(crate) fn walk_blocks(map: Map, s: &[u8], offset: usize) -> Answer
     loop {
         let at = pads_end(s, next);
         match item_at(map, s, at) {
-            Item::Block { place: _, from, to } => {
+            Item::Block {
+                address: _,
+                place: _,
+                from,
+                to,
+            } => {
                 taken += 1;
                 stored += (to - from) as u64;
                 next = to;

@@ -9,7 +9,8 @@ use Rattle.memory_map.specs.Map.{sound}
 use Rattle.memory_map.specs.Lookup.{Lookup, lookup}
 use Rattle.aplx_look.specs.Command.{Command, commandAt}
 use Rattle.aplx_look.specs.Walk.{goes, tests}
-use Rattle.aplx_look.specs.Look.{bytesOf, aplxLook}
+use Rattle.aplx_look.specs.Look.{aplxLook}
+use Rattle.aplx_look.specs.Look.Header.{bytesOf}
 use Rattle.aplx_look.specs.Look.Laws.{Permitted, goes-permitted, whole-words}
 use Rattle.aplx.specs.Load.{loadWith, aplxLoad}
 

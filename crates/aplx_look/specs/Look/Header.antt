@@ -1,5 +1,5 @@
--- Laws of the test for 8, and of the bytes that commands store.
-use mathlib.Core.Path.{_≡_, refl}
+-- Laws of the bytes that commands store, and of the test for 8.
+use mathlib.Core.Path.{_≡_, refl, _∙_}
 use mathlib.Core.Bool.{Bool, true, false}
 use mathlib.Core.List.{List, [], _∷_}
 use Prim.Native.Nat.{ℕ, zero, suc, _+_, _-_, _*_, _≤_, _<_}
@@ -9,11 +9,27 @@ use native.Mathlib.Omega.{arith}
 use Rattle.words.specs.Choice.{if_then_else_}
 use Rattle.memory_map.specs.declared.region.Right.the-variants.{Read}
 use Rattle.outcome.specs.Outcome.{Stop, Ending, stops, refuses}
+use Rattle.outcome.specs.Destinations.{storedIn}
+use Rattle.outcome.specs.Destinations.Laws.{stored-append}
 use Rattle.memory_map.specs.Lookup.{Lookup, placeOf}
-use Rattle.aplx_look.specs.Command.{Command, commandAt}
+use Rattle.aplx_look.specs.Command.{Command, copy, fill, exec, other, commandAt}
 use Rattle.aplx_look.specs.Walk.{commands}
 use Rattle.aplx_look.specs.Walk.Laws.{commands-next, commands-end}
-use Rattle.aplx_look.specs.Look.{meetsHeader, headerTest, bytesOf, bytesIn}
+use Rattle.aplx_look.specs.Look.{destinationsOf, destinations, meetsHeader, headerTest}
+
+-- ---- the bytes that a command stores
+abbrev pub bytesOf : Command → ℕ
+bytesOf (copy d s n) = n
+bytesOf (fill d n w) = n
+bytesOf (exec x) = 0
+bytesOf (other c) = 0
+
+bytes-of : (c : Command) → storedIn (destinationsOf c) ≡ bytesOf c
+unfolding storedIn
+bytes-of (copy d s n) = add-zero n
+bytes-of (fill d n w) = add-zero n
+bytes-of (exec x) = refl
+bytes-of (other c) = refl
 
 -- ---- the commands of k entries, with j of them done
 module _ (find : Lookup) (m : List ℕ) (a k j : ℕ) where
@@ -35,12 +51,16 @@ module _ (find : Lookup) (m : List ℕ) (a k j : ℕ) where
 
   pub bytes-on :
       j < k
-      → bytesIn (commands find m a (k - j)) ≡ bytesOf (commandAt m (placeOf (find Read a 16)) a) + bytesIn (commands find m (a + 16) (k - (j + 1)))
-  unfolding bytesIn
-  bytes-on b = rw (commands-next find m a k j b)
+      → storedIn (destinations (commands find m a (k - j)))
+      ≡ bytesOf (commandAt m (placeOf (find Read a 16)) a) + storedIn (destinations (commands find m (a + 16) (k - (j + 1))))
+  unfolding destinations
+  bytes-on b =
+      let c = commandAt m (placeOf (find Read a 16)) a in
+      let cs = commands find m (a + 16) (k - (j + 1)) in
+      rw (commands-next find m a k j b, ← bytes-of c) (stored-append (destinationsOf c) (destinations cs))
 
-  pub bytes-end : k ≤ j → bytesIn (commands find m a (k - j)) ≡ 0
-  unfolding bytesIn
+  pub bytes-end : k ≤ j → storedIn (destinations (commands find m a (k - j))) ≡ 0
+  unfolding destinations storedIn
   bytes-end b = rw (commands-end find m a k j b)
 
 -- ---- no destination meets the header

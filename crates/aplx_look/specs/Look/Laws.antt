@@ -14,14 +14,15 @@ use Rattle.words.specs.Bytes.{littleEndianAt}
 use Rattle.memory_map.specs.declared.region.Right.the-variants.{Read, Write}
 use Rattle.memory_map.specs.declared.map.Map.{Map}
 use Rattle.outcome.specs.Outcome.{Stop, Ending, stops, refuses, accepted, outcomeAt}
+use Rattle.outcome.specs.Destinations.{storedIn}
 use Rattle.memory_map.specs.Map.{sound}
 use Rattle.memory_map.specs.Lookup.{Lookup, Found, at, refused, found, lookup, placeOf}
 use Rattle.memory_map.specs.Lookup.Laws.{Lawful, found-at}
 use Rattle.aplx_look.specs.Command.{Command, copy, fill, exec, other, commandOf, commandAt}
 use Rattle.aplx_look.specs.Walk.{Verdict, goes, halts, permitted, tests, walk, commands}
 use Rattle.aplx_look.specs.Walk.Laws.{Passed, walk-passed, length-commands}
-use Rattle.aplx_look.specs.Look.Header.{same-stop, clear-from}
-use Rattle.aplx_look.specs.Look.{meetsHeader, headerTest, tested, bytesOf, bytesIn, lookOf, look, aplxLook, outcomeOfLook}
+use Rattle.aplx_look.specs.Look.Header.{bytesOf, same-stop, clear-from}
+use Rattle.aplx_look.specs.Look.{destinations, meetsHeader, headerTest, tested, lookOf, look, aplxLook, outcomeOfLook}
 
 -- k entries from address h on passed their tests, and no destination meets one of them or the stop's
 pub record Ready (find : Lookup) (m : List ℕ) (h k : ℕ) : Type 0 where
@@ -137,7 +138,7 @@ accepted-look map m h {t} {k} {b} e = go (sound map (length m)) refl (eqb (h % 4
         let n = walk (lookup map) m h .count in
         let cs = commands (lookup map) m h n in
         let l : length cs ≡ n = length-commands (lookup map) m h n in
-        let r = accepted-tested h cs (walk (lookup map) m h .ending) (length cs) (bytesIn cs) e in
+        let r = accepted-tested h cs (walk (lookup map) m h .ending) (length cs) (storedIn (destinations cs)) e in
         let c : k ≡ n = r .0 ∙ l in
         record {
           sound-map = p;

@@ -2,7 +2,7 @@
 use mathlib.Core.Path.{_≡_, refl, ap, sym, _∙_}
 use mathlib.Core.Bool.{Bool, true, false}
 use mathlib.Core.List.{List, [], _∷_, _++_, append-assoc}
-use Prim.Native.Nat.{ℕ, zero, suc, _+_, _*_, _/_, _≤_, _<_}
+use Prim.Native.Nat.{ℕ, zero, suc, _+_, _-_, _*_, _/_, _≤_, _<_}
 use native.Mathlib.Nat.{add-zero}
 use native.Mathlib.Omega.{arith}
 use lib.ListN.{length, take, drop, getD, length-append, length-drop}
@@ -87,12 +87,12 @@ module _ (s : List ℕ) (o a : ℕ) (d r : List ℕ) (e : drop o s ≡ block a d
       rw (← drop-drop 7 o s, f, drop-at header (swapWords d ++ r) 7 length-header, take-at (swapWords d) r (length d) (length-swap d)) (swap-swap d)
 
   -- a block with data
-  data-item : (find : Lookup) → Sized 4 a (length d) → itemAt find s o ≡ placed (find Write a (length d)) d o (o + 7 + length d)
+  data-item : (find : Lookup) → Sized 4 a (length d) → itemAt find s o ≡ placed (find Write a (length d)) a o (o + 7 + length d)
   data-item find h =
       let n : 4 * (length d / 4) ≡ length d = omega (arith, h .whole) in
       at-block find s o start (omega (arith, room))
       ∙ whole-block find s o {n = length d / 4} (rw n room) (length-is (omega (arith, h .most))) (omega (arith, h .some)) (address-is (h .low)) (h .aligned)
-      ∙ rw (n, data-is)
+      ∙ rw n
 
 -- a block without data
 run-item : (find : Lookup) (s : List ℕ) (o a : ℕ) (r : List ℕ) → drop o s ≡ block a [] ++ r → a < 4294967296 → itemAt find s o ≡ runOf (runEntry find a) o
@@ -126,8 +126,7 @@ module _ (find : Lookup) (ps : List Piece) (i : ℕ) (old : List ℕ) where
       ≡ told ps i (or-deny (ranged (find Write a (length d))) j f) old (g (storeAt (find Write a (length d)) d m))
   unfolding storeBlocks
   data-step j p qs e a d is h f g rest m =
-      let l = at-piece ps j p qs e ∙ ap (λ (t : List ℕ). t ++ (blocks qs ++ 0xff ∷ [])) is in
-      go (find Write a (length d)) (data-item s o a d (blocks qs ++ 0xff ∷ []) l find h ∙ ap (placed (find Write a (length d)) d o) (sym next))
+      go (find Write a (length d)) (data-item s o a d (blocks qs ++ 0xff ∷ []) there find h ∙ ap (placed (find Write a (length d)) a o) (sym next))
     where
       s : List ℕ
       s = sromImage ps
@@ -135,14 +134,19 @@ module _ (find : Lookup) (ps : List Piece) (i : ℕ) (old : List ℕ) where
       o : ℕ
       o = blockAt ps j
 
+      there : drop o s ≡ block a d ++ (blocks qs ++ 0xff ∷ [])
+      there = at-piece ps j p qs e ∙ ap (λ (t : List ℕ). t ++ (blocks qs ++ 0xff ∷ [])) is
+
       next : blockAt ps (suc j) ≡ o + 7 + length d
       next =
           omega
           (arith, next-block ps j p qs e, length-blockOf p, ap length is, length-block a d)
 
-      go : (x : Found) → itemAt find s o ≡ placed x d o (blockAt ps (suc j))
+      go : (x : Found) → itemAt find s o ≡ placed x a o (blockAt ps (suc j))
           → done (walk find s o) old m ≡ told ps i (or-deny (ranged x) j f) old (g (storeAt x d m))
-      go (map.at q) v = rw (walk-block find s o v) (rest _)
+      go (map.at q) v =
+          let n : blockAt ps (suc j) - (o + 7) ≡ length d = omega (arith, next) in
+          rw (walk-block find s o v, n, data-is s o a d (blocks qs ++ 0xff ∷ []) there) (rest _)
       go (map.refused y) v = rw (walk-halt find s o v)
 
   -- the piece with index j is a run

@@ -3,10 +3,9 @@ use mathlib.Core.Path.{_≡_}
 use Prim.Native.Nat.{ℕ, _+_, _*_, _%_, _≤_, _<_}
 use mathlib.Core.List.{List}
 use native.Mathlib.Omega.{arith}
-use lib.ListN.{length, take, drop, getD}
+use lib.ListN.{length, getD}
 use borrow.Author.Tests.{le-leb, lt-leb, le-ltb, eq-eqb, ne-eqb}
 use Rattle.words.specs.Bytes.{bigEndianAt}
-use Rattle.word_blocks.specs.Swap.{swapWords}
 use Rattle.memory_map.specs.declared.region.Right.the-variants.{Write}
 use Rattle.outcome.specs.Outcome.{end, stops, refuses}
 use Rattle.memory_map.specs.Lookup.{Lookup}
@@ -36,7 +35,7 @@ module _ (find : Lookup) (s : List ℕ) (o : ℕ) where
 
   pub whole-block :
       {n a : ℕ} → o + 7 + 4 * n ≤ length s → bigEndianAt 2 s (o + 1) ≡ n → 0 < n → bigEndianAt 4 s (o + 3) ≡ a → a % 4 ≡ 0
-      → blockAt find s o ≡ placed (find Write a (4 * n)) (swapWords (take (4 * n) (drop (o + 7) s))) o (o + 7 + 4 * n)
+      → blockAt find s o ≡ placed (find Write a (4 * n)) a o (o + 7 + 4 * n)
   unfolding blockAt dataBlock
   whole-block {n} {a} h k z e w =
       rw

@@ -1,5 +1,5 @@
 -- Laws of the walk: the pads, the facts of a block that stands at an offset, and a step at a time.
-use mathlib.Core.Path.{_≡_, refl, sym, _∙_, ap}
+use mathlib.Core.Path.{_≡_, refl, sym, _∙_}
 use mathlib.Core.Bool.{Bool, true, false, not}
 use mathlib.Core.List.{List, [], _∷_}
 use Prim.Native.Nat.{ℕ, zero, suc, _+_, _-_, _*_, _%_, _≤_, _<_}
@@ -11,7 +11,6 @@ use lib.Seq.{drop-cons, length-take-le}
 use borrow.Author.Tests.{leb-true, leb-false, ltb-false, eqb-true, eqb-false, not-false, eq-eqb, ne-eqb}
 use Rattle.words.specs.Choice.Laws.{from-else, from-then}
 use Rattle.words.specs.Bytes.{bigEndianAt}
-use Rattle.word_blocks.specs.Swap.{swapWords}
 use Rattle.word_blocks.specs.Swap.Laws.{length-swap}
 use Rattle.memory_map.specs.declared.region.Right.the-variants.{Write}
 use Rattle.memory_map.specs.Lookup as map
@@ -19,7 +18,7 @@ use Rattle.memory_map.specs.Lookup.{Lookup, Found}
 use Rattle.memory_map.specs.Entry as entry
 use Rattle.memory_map.specs.Entry.{RunEntry, runEntry}
 use Rattle.outcome.specs.Outcome.{Ending}
-use Rattle.srom.specs.Walk.{Block, Item, pad, block, halt, placed, dataBlock, runOf, blockAt, itemAt, after, walkFor, walk, leadingPads, padsEnd}
+use Rattle.srom.specs.Walk.{Item, pad, block, halt, placed, dataBlock, runOf, blockAt, itemAt, blockIn, after, walkFor, walk, leadingPads, padsEnd}
 use Rattle.srom.specs.Walk.Items.{at-pad}
 
 -- ---- pads
@@ -70,67 +69,64 @@ pads-end-other s o = go (pads s o)
 halt-no-pad : {x : Ending} → halt x ≡ pad → ⊥
 halt-no-pad e = let z : _≡_ {A = ℕ} 0 1 = cc in omega arith
 
-halt-no-block : {x : Ending} {b : Block} {e : ℕ} → halt x ≡ block b e → ⊥
-halt-no-block e = let z : _≡_ {A = ℕ} 0 1 = cc in omega arith
+halt-no-block : {x : Ending} {a p b e : ℕ} → halt x ≡ block a p b e → ⊥
+halt-no-block h = let z : _≡_ {A = ℕ} 0 1 = cc in omega arith
 
-pad-no-block : {b : Block} {e : ℕ} → pad ≡ block b e → ⊥
-pad-no-block e = let z : _≡_ {A = ℕ} 0 1 = cc in omega arith
+pad-no-block : {a p b e : ℕ} → pad ≡ block a p b e → ⊥
+pad-no-block h = let z : _≡_ {A = ℕ} 0 1 = cc in omega arith
 
-run-no-block : (r : RunEntry) (o : ℕ) {b : Block} {e : ℕ} → runOf r o ≡ block b e → ⊥
-run-no-block (entry.entry k a) o e = halt-no-block e
-run-no-block (entry.refused x) o e = halt-no-block e
+run-no-block : (r : RunEntry) (o : ℕ) {a p b e : ℕ} → runOf r o ≡ block a p b e → ⊥
+run-no-block (entry.entry k x) o h = halt-no-block h
+run-no-block (entry.refused x) o h = halt-no-block h
 
-record Placed (f : Found) (d : List ℕ) (x : ℕ) (b : Block) (e : ℕ) : Type 0 where
-  found : f ≡ map.at (b .place)
-  bytes : b .bytes ≡ d
+-- a block that was placed
+record Placed (f : Found) (c o x a p b e : ℕ) : Type 0 where
+  found : f ≡ map.at p
+  address : c ≡ a
+  data-start : o + 7 ≡ b
   last : x ≡ e
 
-placed-facts : (f : Found) (d : List ℕ) (o x : ℕ) {b : Block} {e : ℕ} → placed f d o x ≡ block b e → Placed f d x b e
-placed-facts (map.at p) d o x {b} h =
-    let r : record { place = p; bytes = d } ≡ b = cc in
-    record { found = ap (λ (c : Block). map.at (c .place)) r; bytes = ap (λ (c : Block). c .bytes) (sym r); last = cc }
-placed-facts (map.refused y) d o x h = absurd (halt-no-block h)
+placed-facts : (f : Found) (c o x : ℕ) {a p b e : ℕ} → placed f c o x ≡ block a p b e → Placed f c o x a p b e
+placed-facts (map.at q) c o x h = record { found = cc; address = cc; data-start = cc; last = cc }
+placed-facts (map.refused y) c o x h = absurd (halt-no-block h)
 
-pub record BlockFacts (find : Lookup) (s : List ℕ) (o : ℕ) (b : Block) (e : ℕ) : Type 0 where
+pub record BlockFacts (find : Lookup) (s : List ℕ) (o a p b e : ℕ) : Type 0 where
   pub start : o < length s
+  pub data-start : b ≡ o + 7
   -- four bytes of data at least
-  pub first : o + 7 < e
+  pub first : b < e
   pub last : e ≤ length s
-  pub size : o + 7 + length (b .bytes) ≡ e
-  pub whole : length (b .bytes) % 4 ≡ 0
-  pub bytes : b .bytes ≡ swapWords (take (e - (o + 7)) (drop (o + 7) s))
-  pub address : ℕ
-  pub aligned : address % 4 ≡ 0
-  pub found : find Write address (length (b .bytes)) ≡ map.at (b .place)
+  pub whole : (e - b) % 4 ≡ 0
+  pub size : length (blockIn s a p b e .bytes) ≡ e - b
+  pub aligned : a % 4 ≡ 0
+  pub found : find Write a (e - b) ≡ map.at p
 
 module _ (find : Lookup) (s : List ℕ) (o : ℕ) where
   pub pad-start : itemAt find s o ≡ pad → o < length s
   unfolding itemAt
   pad-start e = leb-false _ _ (from-else (leb (length s) o) halt-no-pad e .0)
 
-  data-facts : (n a : ℕ) {b : Block} {e : ℕ} → (n ≡ 0 → ⊥) → dataBlock find s o n a ≡ block b e → BlockFacts find s o b e
+  data-facts : (n c : ℕ) {a p b e : ℕ} → (n ≡ 0 → ⊥) → dataBlock find s o n c ≡ block a p b e → BlockFacts find s o a p b e
   unfolding dataBlock
-  data-facts n a {b} {e} z h =
-      let p = from-else (not (eqb (a % 4) 0)) halt-no-block h in
-      let q = from-else (ltb (length s) (o + 7 + 4 * n)) halt-no-block (p .1) in
-      let l : o + 7 + 4 * n ≤ length s = ltb-false _ _ (q .0) in
-      let f = placed-facts (find Write a (4 * n)) (swapWords (take (4 * n) (drop (o + 7) s))) o (o + 7 + 4 * n) (q .1) in
-      let k : length (b .bytes) ≡ 4 * n =
-      rw (f .bytes, length-swap) (length-take-le (4 * n) (drop (o + 7) s) (rw length-drop (omega arith))) in
-      let m : e - (o + 7) ≡ 4 * n = omega arith in
+  data-facts n c {a} {p} {b} {e} z h =
+      let t = from-else (not (eqb (c % 4) 0)) halt-no-block h in
+      let u = from-else (ltb (length s) (o + 7 + 4 * n)) halt-no-block (t .1) in
+      let l : o + 7 + 4 * n ≤ length s = ltb-false _ _ (u .0) in
+      let f = placed-facts (find Write c (4 * n)) c o (o + 7 + 4 * n) (u .1) in
+      let m : e - b ≡ 4 * n = omega arith in
+      let k : length (take (e - b) (drop b s)) ≡ e - b = length-take-le (e - b) (drop b s) (rw length-drop (omega arith)) in
       record {
         start = omega arith;
+        data-start = omega arith;
         first = omega arith;
         last = omega arith;
-        size = omega arith;
         whole = omega arith;
-        bytes = rw m (f .bytes);
-        address = a;
-        aligned = eqb-true _ _ (not-false _ (p .0));
-        found = rw k (f .found);
+        size = length-swap (take (e - b) (drop b s)) ∙ k;
+        aligned = rw (← f .address) (eqb-true _ _ (not-false _ (t .0)));
+        found = rw (m, ← f .address) (f .found);
       }
 
-  pub block-facts : {b : Block} {e : ℕ} → itemAt find s o ≡ block b e → BlockFacts find s o b e
+  pub block-facts : {a p b e : ℕ} → itemAt find s o ≡ block a p b e → BlockFacts find s o a p b e
   unfolding itemAt blockAt
   block-facts h =
       let p = from-else (leb (length s) o) halt-no-block h in
@@ -152,9 +148,9 @@ module _ (find : Lookup) (s : List ℕ) where
       go :
           (x : Item) → itemAt find s o ≡ x
           → ((e : ℕ) → length s - e < f → length s - e < g → walkFor f find s e ≡ walkFor g find s e)
-          → after x o (walkFor f find s) ≡ after x o (walkFor g find s)
+          → after s x o (walkFor f find s) ≡ after s x o (walkFor g find s)
       go pad i same = let p = pad-start find s o i in same (o + 1) (omega arith) (omega arith)
-      go (block b e) i same = let p = block-facts find s o i in rw (same e (omega arith) (omega arith))
+      go (block a p b e) i same = let d = block-facts find s o i in rw (same e (omega arith) (omega arith))
       go (halt x) i same = refl
 
   pub walk-enough : (o f : ℕ) → length s - o < f → walkFor f find s o ≡ walk find s o
@@ -166,10 +162,10 @@ module _ (find : Lookup) (s : List ℕ) where
   walk-pad o i = let p = pad-start find s o i in rw i (walk-enough (o + 1) (length s - o) (omega arith))
 
   pub walk-block :
-      (o : ℕ) {b : Block} {e : ℕ} → itemAt find s o ≡ block b e
-      → walk find s o ≡ record { blocks = b ∷ walk find s e .blocks; ending = walk find s e .ending }
+      (o : ℕ) {a p b e : ℕ} → itemAt find s o ≡ block a p b e
+      → walk find s o ≡ record { blocks = blockIn s a p b e ∷ walk find s e .blocks; ending = walk find s e .ending }
   unfolding walk walkFor
-  walk-block o {e} i = let p = block-facts find s o i in rw (i, walk-enough e (length s - o) (omega arith))
+  walk-block o {a} {p} {b} {e} i = let d = block-facts find s o i in rw (i, walk-enough e (length s - o) (omega arith))
 
   pub walk-halt : (o : ℕ) {x : Ending} → itemAt find s o ≡ halt x → walk find s o ≡ record { blocks = []; ending = x }
   unfolding walk walkFor

@@ -5,7 +5,7 @@ use lib.ListN.{length}
 use Rattle.outcome.specs.Outcome.{outcomeOf}
 use Rattle.outcome.specs.Outcome.Laws.{refused-keeps, accepted-leaves}
 use Rattle.memory_map.specs.Lookup.{lookup}
-use Rattle.aplx_look.specs.Look.{bytesIn, aplxLook}
+use Rattle.aplx_look.specs.Look.{aplxLook}
 use Rattle.aplx_look.specs.Look.Laws.{Accepted, accepted-look}
 use Rattle.aplx.specs.Load.{performAll, aplxLoad}
 use Rattle.aplx.proofs.load.load.Statement.{statement}
@@ -37,7 +37,7 @@ unfolding aplxLoad
 returns c = let x = c .before .before .before .before .before .before .args in
     let l = aplxLook (x .map) (x .memory .now) (x .header) in
     let e = sym (c .before .before .before .look .ensures) ∙ ap outcomeOf (c .before .refusal .given .1) in
-    simp (e, refused-keeps (length (l .commands)) (bytesIn (l .commands)) (x .memory .now) (performAll (lookup (x .map)) (l .commands) (x .memory .now)) (l .ending) e)
+    simp (e, refused-keeps _ _ (x .memory .now) (performAll (lookup (x .map)) (l .commands) (x .memory .now)) (l .ending) e)
 
 same-length-2 : tie.Need-same-length-2
 same-length-2 c = search needs
@@ -49,7 +49,7 @@ returns-2 c = let d = c .before .before .before .before in
     let l = aplxLook (x .map) (x .memory .now) (x .header) in
     let e = sym (d .before .before .before .look .ensures) ∙ ap outcomeOf (d .before .stop .given .1) in
     rw (c .before .before .perform-all .ensures, ← passed d .commands-are)
-    (simp (e, accepted-leaves (length (l .commands)) (bytesIn (l .commands)) (x .memory .now) (performAll (lookup (x .map)) (l .commands) (x .memory .now)) (l .ending) e))
+    (simp (e, accepted-leaves _ _ (x .memory .now) (performAll (lookup (x .map)) (l .commands) (x .memory .now)) (l .ending) e))
 
 pub load-spec : {M : Type 1} → statement M
 load-spec =

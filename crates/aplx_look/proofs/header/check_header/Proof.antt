@@ -8,29 +8,32 @@ use native.Mathlib.Omega.{arith}
 use lib.ListN.{length}
 use Rattle.memory_map.specs.declared.region.Right.the-variants.{Read}
 use Rattle.memory_map.specs.declared.map.Map.{Map}
-use Rattle.outcome.specs.Outcome.{Ending}
+use Rattle.outcome.specs.Outcome.{stops, stopOf}
+use Rattle.outcome.specs.Destinations.{storedIn}
 use Rattle.memory_map.specs.Lookup.{lookup, placeOf}
 use Rattle.memory_map.specs.Lookup.Laws.{lawful, found-place}
 use Rattle.aplx_look.specs.Command.{Command, commandAt}
 use Rattle.aplx_look.specs.Walk.{commands}
 use Rattle.aplx_look.specs.Walk.Laws.{Entry, goes-found}
-use Rattle.aplx_look.specs.Look.{meetsHeader, headerTest, bytesOf, bytesIn}
-use Rattle.aplx_look.specs.Look.Header.{header-met, header-on, header-end, bytes-on, bytes-end}
+use Rattle.aplx_look.specs.Look.{destinations, meetsHeader, headerTest}
+use Rattle.aplx_look.specs.Look.Header.{bytesOf, header-met, header-on, header-end, bytes-on, bytes-end}
 use Rattle.aplx_look.specs.Look.Laws.{goes-bytes}
 use Rattle.aplx_look.specs.Code.{commandIs}
+use Rattle.aplx_look.proofs.Looking.{outcome-tested}
 use Rattle.aplx_look.proofs.header.check_header.Statement.{statement}
 use Rattle.aplx_look.proofs.header.check_header.Tie as tie
 
 abbrev Inv-loop : tie.InvT-loop
-Inv-loop map memory header count size address₀ stored₀ i₀ address stored i =
+Inv-loop map memory header count stop size address₀ stored₀ i₀ address stored i =
+    let end = stops (stopOf stop) in
     (address ≡ header + 16 * i)
     × (i ≤ count)
     × (stored ≤ 4294967280 * i)
-    × (stored + bytesIn (commands (lookup map) memory address (count - i)) ≡ bytesIn (commands (lookup map) memory header count))
-    × ((x : Ending) → headerTest header size (commands (lookup map) memory address (count - i)) i x ≡ headerTest header (16 * suc count) (commands (lookup map) memory header count) 0 x)
+    × (stored + storedIn (destinations (commands (lookup map) memory address (count - i))) ≡ storedIn (destinations (commands (lookup map) memory header count)))
+    × (headerTest header size (commands (lookup map) memory address (count - i)) i end ≡ headerTest header (16 * suc count) (commands (lookup map) memory header count) 0 end)
 
 abbrev μ-loop : tie.MeasureT-loop
-μ-loop map memory header count size address₀ stored₀ i₀ address stored i = count - i
+μ-loop map memory header count stop size address₀ stored₀ i₀ address stored i = count - i
 
 -- the entry in turn passed its tests
 entry : (c : tie.In-loop Inv-loop μ-loop) → let x = c .before .before .before .args in Entry (lookup (x .map)) (x .memory .now) (c .before .loop .address) (c .before .loop .i)
@@ -88,7 +91,7 @@ loop-holds : tie.Need-loop-holds Inv-loop μ-loop
 loop-holds c = let x = c .before .args in
     let z : 16 * (x .count + 1) ≡ 16 * suc (x .count) = omega arith in
     let k : x .count - 0 ≡ x .count = omega arith in
-    (omega arith, omega arith, omega arith, simp (k, zero-add), λ (y : Ending). simp (k, z))
+    (omega arith, omega arith, omega arith, simp (k, zero-add), simp (k, z))
 
 lookup-requires : tie.Need-lookup-requires Inv-loop μ-loop
 lookup-requires c κs = search needs
@@ -107,7 +110,8 @@ returns c = let d = c .before in
     let l = d .before .before .before .before .before .loop in
     let x = d .before .before .before .before .before .before .before .args in
     let e = met d ∙ c .if1 .taken in
-    (λ (y : Ending). sym (l .inv .4 y) ∙ header-met (lookup (x .map)) (x .memory .now) (l .address) (x .count) (l .i) (x .header) (16 * (x .count + 1)) y (omega arith) e, tt)
+    let t = header-met (lookup (x .map)) (x .memory .now) (l .address) (x .count) (l .i) (x .header) (16 * (x .count + 1)) _ (omega arith) e in
+    sym (outcome-tested (lookup (x .map)) (x .memory .now) (x .header) (x .count) (stopOf (x .stop)) (sym (l .inv .4) ∙ t))
 
 bytes-of-requires : tie.Need-bytes-of-requires Inv-loop μ-loop
 bytes-of-requires c κs = search needs
@@ -136,16 +140,16 @@ loop-again c = let d = c .before .before in
       omega arith,
       omega arith,
       omega arith,
-      λ (y : Ending). sym (header-on (lookup (x .map)) (x .memory .now) (l .address) (x .count) (l .i) (x .header) (16 * (x .count + 1)) y (omega arith) e) ∙ l .inv .4 y,
+      sym (header-on (lookup (x .map)) (x .memory .now) (l .address) (x .count) (l .i) (x .header) (16 * (x .count + 1)) _ (omega arith) e) ∙ l .inv .4,
     )
 
 returns-2 : tie.Need-returns-2 Inv-loop μ-loop
 returns-2 c = let l = c .before .loop in
     let x = c .before .before .before .args in
-    let b = bytes-end (lookup (x .map)) (x .memory .now) (l .address) (x .count) (l .i) (omega arith) in (
-      λ (y : Ending). sym (l .inv .4 y) ∙ header-end (lookup (x .map)) (x .memory .now) (l .address) (x .count) (l .i) (x .header) (16 * (x .count + 1)) y (omega arith),
-      omega arith,
-    )
+    let b = bytes-end (lookup (x .map)) (x .memory .now) (l .address) (x .count) (l .i) (omega arith) in
+    let n : l .stored ≡ storedIn (destinations (commands (lookup (x .map)) (x .memory .now) (x .header) (x .count))) = omega arith in
+    let t = header-end (lookup (x .map)) (x .memory .now) (l .address) (x .count) (l .i) (x .header) (16 * (x .count + 1)) _ (omega arith) in
+    rw n (sym (outcome-tested (lookup (x .map)) (x .memory .now) (x .header) (x .count) (stopOf (x .stop)) (sym (l .inv .4) ∙ t)))
 
 pub check-header-spec : {M : Type 1} → statement M
 check-header-spec =

@@ -4,7 +4,7 @@ use mathlib.Core.Path.{ap, sym, _∙_}
 use lib.ListN.{length}
 use Rattle.outcome.specs.Outcome.Laws.{refused-keeps, accepted-leaves}
 use Rattle.srom.specs.Load.Laws.{Accepted, accepted-look}
-use Rattle.srom.specs.Load.{bytesIn, sromLook, storeBlocks, sromLoad}
+use Rattle.srom.specs.Load.{sromLook, storeBlocks, sromLoad}
 use Rattle.outcome.specs.Outcome.{outcomeOf}
 use Rattle.srom.proofs.load.load.Statement.{statement}
 use Rattle.srom.proofs.load.load.Tie as tie
@@ -32,7 +32,7 @@ unfolding sromLoad
 returns c = let x = c .before .before .before .before .before .before .args in
     let w = sromLook (x .map) (length (x .memory .now)) (x .rom .now) (x .offset) in
     let e = sym (c .before .before .before .look .ensures) ∙ ap outcomeOf (c .before .refusal .given .1) in
-    simp (e, refused-keeps (length (w .blocks)) (bytesIn (w .blocks)) (x .memory .now) (storeBlocks (w .blocks) (x .memory .now)) (w .ending) e)
+    simp (e, refused-keeps _ _ (x .memory .now) (storeBlocks (w .blocks) (x .memory .now)) (w .ending) e)
 
 same-length : tie.Need-same-length
 same-length c = search needs
@@ -44,7 +44,7 @@ returns-2 c = let d = c .before .before .before .before in
     let w = sromLook (x .map) (length (x .memory .now)) (x .rom .now) (x .offset) in
     let e = sym (d .before .before .before .look .ensures) ∙ ap outcomeOf (d .before .stop .given .1) in
     rw (c .before .before .store-blocks .ensures, ← passed d .walked)
-    (simp (e, accepted-leaves (length (w .blocks)) (bytesIn (w .blocks)) (x .memory .now) (storeBlocks (w .blocks) (x .memory .now)) (w .ending) e))
+    (simp (e, accepted-leaves _ _ (x .memory .now) (storeBlocks (w .blocks) (x .memory .now)) (w .ending) e))
 
 pub load-spec : {M : Type 1} → statement M
 load-spec =

@@ -3,17 +3,16 @@ use mathlib.Core.Path.{_≡_, refl, ap, sym, _∙_}
 use native.Mathlib.Omega.{arith}
 use borrow.Author.Needs.{needs}
 use Prim.Native.Nat.{ℕ, _+_, _-_, _≤_}
-use lib.ListN.{length, take, drop}
+use lib.ListN.{length}
 use Rattle.srom.proofs.Loops.{Located, located, stores-on, stores-end}
 use Rattle.srom.specs.Code.{itemOf}
 use Rattle.srom.specs.Load.{storeBlocks}
 use Rattle.srom.specs.Walk.Laws.{pads-end-other}
-use Rattle.srom.specs.Walk.{itemAt, walk, padsEnd}
+use Rattle.srom.specs.Walk.{itemAt, blockIn, walk, padsEnd}
 use Rattle.memory_map.specs.Lookup.Laws.{lawful}
 use Rattle.memory_map.specs.Lookup.{lookup}
 use Rattle.memory_map.specs.declared.region.Right.the-variants.{Write}
 use Rattle.words.specs.Store.Laws.{length-store, store-fits}
-use Rattle.word_blocks.specs.Swap.{swapWords}
 use Rattle.srom.proofs.store.store_blocks.Statement.{statement}
 use Rattle.srom.proofs.store.store_blocks.Tie as tie
 
@@ -26,7 +25,7 @@ abbrev μ-loop : tie.MeasureT-loop
 -- the item where the pads end
 item-there : (c : tie.After-item-at Inv-loop μ-loop)
     → let x = c .before .before .before .before .before .args in
-    itemAt (lookup (x .map)) (x .s .now) (padsEnd (x .s .now) (c .before .before .loop .next)) ≡ itemOf (x .s .now) (c .item-at .result)
+    itemAt (lookup (x .map)) (x .s .now) (padsEnd (x .s .now) (c .before .before .loop .next)) ≡ itemOf (c .item-at .result)
 item-there c =
     let x = c .before .before .before .before .before .args in
     ap (λ (o : ℕ). itemAt (lookup (x .map)) (x .s .now) o) (sym (c .before .pads-end .ensures)) ∙ sym (c .item-at .ensures)
@@ -36,24 +35,24 @@ there : (c : tie.After-known-told Inv-loop μ-loop)
     → let i = c .before .before .before in
     let x = i .before .before .before .before .before .args in
     let f = c .before .place .given .0 in
-    Located (lookup (x .map)) (x .s .now) (i .before .before .loop .next) (f .0) (f .1 .0) (f .1 .1 .0)
+    Located (lookup (x .map)) (x .s .now) (i .before .before .loop .next) (f .0) (f .1 .0) (f .1 .1 .0) (f .1 .1 .1 .0)
 there c =
     let i = c .before .before .before in
     let x = i .before .before .before .before .before .args in
     let f = c .before .place .given .0 in
-    located (lookup (x .map)) (x .s .now) _ (f .0) (f .1 .0) (f .1 .1 .0) (item-there i ∙ ap (itemOf (x .s .now)) (c .before .place .given .1))
+    located (lookup (x .map)) (x .s .now) _ (f .0) (f .1 .0) (f .1 .1 .0) (f .1 .1 .1 .0) (item-there i ∙ ap itemOf (c .before .place .given .1))
 
 -- its range ends inside memory
 inside : (c : tie.After-known-told Inv-loop μ-loop)
-    → let f = c .before .place .given .0 in f .0 + (f .1 .1 .0 - f .1 .0) ≤ length (c .before .before .before .before .before .loop .memory)
+    → let f = c .before .place .given .0 in f .1 .0 + (f .1 .1 .1 .0 - f .1 .1 .0) ≤ length (c .before .before .before .before .before .loop .memory)
 inside c =
     let i = c .before .before .before in
     let s = i .before .before .before .before .before in
     let f = c .before .place .given .0 in
     let l = there c in
-    let h = lawful (s .args .map) (length (s .args .memory .now)) (s .pre .1) .inside Write (l .facts .address) _ (f .0) (l .facts .found) in
+    let h = lawful (s .args .map) (length (s .args .memory .now)) (s .pre .1) .inside Write (f .0) _ (f .1 .0) (l .facts .found) in
     let g = i .before .before .loop .inv .1 in
-    omega (arith, h, l .size, g)
+    omega (arith, h, g)
 
 loop-holds : tie.Need-loop-holds Inv-loop μ-loop
 loop-holds c = (refl, refl)
@@ -68,7 +67,7 @@ enum-known-place : tie.Need-enum-known-place Inv-loop μ-loop
 enum-known-place c = search needs
 
 sub-put : tie.Need-sub-put Inv-loop μ-loop
-sub-put c = there (c .before) .ordered
+sub-put c = omega (arith, there (c .before) .facts)
 
 part-put-start : tie.Need-part-put-start Inv-loop μ-loop
 part-put-start c = omega (arith, there (c .before), there (c .before) .facts)
@@ -88,11 +87,11 @@ loop-again c = let k = c .before .before .before .before .before in
     let x = i .before .before .before .before .before .args in
     let f = k .before .place .given .0 in
     let n = i .before .before .loop in
-    let e = item-there i ∙ ap (itemOf (x .s .now)) (k .before .place .given .1) in
-    let w = swapWords (take (f .1 .1 .0 - f .1 .0) (drop (f .1 .0) (x .s .now))) in
-    let stored = c .before .before .put .ensures ∙ store-fits (n .memory) (f .0) w (rw (there k .size) (inside k)) in (
+    let e = item-there i ∙ ap itemOf (k .before .place .given .1) in
+    let w = blockIn (x .s .now) (f .0) (f .1 .0) (f .1 .1 .0) (f .1 .1 .1 .0) .bytes in
+    let stored = c .before .before .put .ensures ∙ store-fits (n .memory) (f .1 .0) w (rw (there k .facts .size) (inside k)) in (
       rw (stored) (sym (stores-on (lookup (x .map)) (x .s .now) (n .next) (n .memory) e) ∙ n .inv .0),
-      rw (stored) (length-store (n .memory) (f .0) w (rw (there k .size) (inside k)) ∙ n .inv .1),
+      rw (stored) (length-store (n .memory) (f .1 .0) w (rw (there k .facts .size) (inside k)) ∙ n .inv .1),
     )
 
 enum-told : tie.Need-enum-told Inv-loop μ-loop
@@ -105,7 +104,7 @@ returns : tie.Need-returns Inv-loop μ-loop
 returns c = let i = c .before .before in
     let x = i .before .before .before .before .before .args in
     let n = i .before .before .loop in
-    sym (stores-end (lookup (x .map)) (x .s .now) (n .next) (n .memory) (item-there i ∙ ap (itemOf (x .s .now)) (c .enum-told .given .1))) ∙ n .inv .0
+    sym (stores-end (lookup (x .map)) (x .s .now) (n .next) (n .memory) (item-there i ∙ ap itemOf (c .enum-told .given .1))) ∙ n .inv .0
 
 enum-told-2 : tie.Need-enum-told-2 Inv-loop μ-loop
 enum-told-2 c = search needs
@@ -117,7 +116,7 @@ returns-2 : tie.Need-returns-2 Inv-loop μ-loop
 returns-2 c = let i = c .before .before in
     let x = i .before .before .before .before .before .args in
     let n = i .before .before .loop in
-    sym (stores-end (lookup (x .map)) (x .s .now) (n .next) (n .memory) (item-there i ∙ ap (itemOf (x .s .now)) (c .enum-told2 .given .1))) ∙ n .inv .0
+    sym (stores-end (lookup (x .map)) (x .s .now) (n .next) (n .memory) (item-there i ∙ ap itemOf (c .enum-told2 .given .1))) ∙ n .inv .0
 
 pub store-blocks-spec : {M : Type 1} → statement M
 store-blocks-spec =

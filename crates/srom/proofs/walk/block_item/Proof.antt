@@ -64,7 +64,7 @@ run-item-requires c κs = search needs
 
 returns-2 : tie.Need-returns-2
 unfolding blockAt
-returns-2 c = let x = c .before .before .before .before .before .before .before .before .args in let s = x .s .now in simp (le-ltb (length s) (x .at + 7) (omega arith), eq-eqb (bigEndianAt 2 s (x .at + 1)) 0 (sym (half-read (c .before .before)) ∙ c .before .if2 .taken), ← word-read (c .before .before)) (c .run-item .ensures s)
+returns-2 c = let x = c .before .before .before .before .before .before .before .before .args in let s = x .s .now in simp (le-ltb (length s) (x .at + 7) (omega arith), eq-eqb (bigEndianAt 2 s (x .at + 1)) 0 (sym (half-read (c .before .before)) ∙ c .before .if2 .taken), ← word-read (c .before .before)) (c .run-item .ensures)
 
 data-item-requires : tie.Need-data-item-requires
 data-item-requires c κs = search needs

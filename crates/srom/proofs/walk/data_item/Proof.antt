@@ -1,12 +1,10 @@
 -- `srom::walk::data_item` meets its contract: the tests are those of the definition, in its order.
 use borrow.Author.Needs.{needs}
-use mathlib.Core.Path.{_≡_, ap, sym, _∙_}
+use mathlib.Core.Path.{ap, sym, _∙_}
 use native.Mathlib.Omega.{arith}
 use borrow.Author.Tests.{eq-eqb, ne-eqb, le-ltb, lt-ltb}
 use Prim.Native.Nat.{_+_, _*_, _%_}
 use lib.ListN.{length}
-use mathlib.Core.Path.{_≡_}
-use Prim.Native.Nat.{_-_}
 use Rattle.srom.specs.Walk.{dataBlock}
 use Rattle.memory_map.specs.Lookup.{foundOf}
 use Rattle.srom.proofs.walk.data_item.Statement.{statement}
@@ -43,7 +41,7 @@ enum-known-number c = search needs
 
 returns-3 : tie.Need-returns-3
 unfolding dataBlock
-returns-3 c = let x = c .before .before .before .before .before .before .before .args in let z : x .at + 7 + 4 * x .words - (x .at + 7) ≡ 4 * x .words = omega arith in simp (z, eq-eqb (x .address % 4) 0 (omega arith), le-ltb (length (x .s .now)) (x .at + 7 + 4 * x .words) (omega arith), sym (c .before .before .before .lookup .ensures) ∙ ap foundOf (c .before .place .given .1))
+returns-3 c = let x = c .before .before .before .before .before .before .before .args in simp (eq-eqb (x .address % 4) 0 (omega arith), le-ltb (length (x .s .now)) (x .at + 7 + 4 * x .words) (omega arith), sym (c .before .before .before .lookup .ensures) ∙ ap foundOf (c .before .place .given .1))
 
 returns-4 : tie.Need-returns-4
 unfolding dataBlock

@@ -1,8 +1,6 @@
 -- `srom::walk::run_item` meets its contract: each answer of the map is a case of the definition.
 use borrow.Author.Needs.{needs}
 use mathlib.Core.Path.{ap, sym, _∙_}
-use mathlib.Core.List.{List}
-use Prim.Native.Nat.{ℕ}
 use Rattle.memory_map.specs.Entry.{runEntryOf}
 use Rattle.srom.proofs.walk.run_item.Statement.{statement}
 use Rattle.srom.proofs.walk.run_item.Tie as tie
@@ -23,10 +21,10 @@ enum-known-number : tie.Need-enum-known-number
 enum-known-number c = search needs
 
 returns : tie.Need-returns
-returns c = λ (s : List ℕ). simp (sym (c .before .before .before .run-entry .ensures) ∙ ap runEntryOf (c .before .entry .given .1))
+returns c = simp (sym (c .before .before .before .run-entry .ensures) ∙ ap runEntryOf (c .before .entry .given .1))
 
 returns-2 : tie.Need-returns-2
-returns-2 c = λ (s : List ℕ). simp (sym (c .before .before .before .run-entry .ensures) ∙ ap runEntryOf (c .before .number .given .1))
+returns-2 c = simp (sym (c .before .before .before .run-entry .ensures) ∙ ap runEntryOf (c .before .number .given .1))
 
 pub run-item-spec : {M : Type 1} → statement M
 run-item-spec =

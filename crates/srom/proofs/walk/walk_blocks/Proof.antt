@@ -4,7 +4,6 @@ use native.Mathlib.Omega.{arith}
 use borrow.Author.Needs.{needs}
 use Prim.Native.Nat.{ℕ, _-_, _≤_}
 use lib.ListN.{length}
-use Rattle.srom.specs.Walk.{block}
 use Rattle.srom.proofs.Loops.{counted, counted-none, Located, located, counts-on, counts-end}
 use Rattle.srom.specs.Code.{itemOf}
 use Rattle.srom.specs.Load.{outcomeOfWalk}
@@ -21,7 +20,7 @@ abbrev μ-loop : tie.MeasureT-loop
 μ-loop map s offset next₀ taken₀ stored₀ next taken stored = length s - next
 
 -- the item where the pads end
-item-there : (c : tie.After-item-at Inv-loop μ-loop) → let x = c .before .before .before .before .args in itemAt (lookup (x .map)) (x .s .now) (padsEnd (x .s .now) (c .before .before .loop .next)) ≡ itemOf (x .s .now) (c .item-at .result)
+item-there : (c : tie.After-item-at Inv-loop μ-loop) → let x = c .before .before .before .before .args in itemAt (lookup (x .map)) (x .s .now) (padsEnd (x .s .now) (c .before .before .loop .next)) ≡ itemOf (c .item-at .result)
 item-there c =
     let x = c .before .before .before .before .args in
     ap (λ (o : ℕ). itemAt (lookup (x .map)) (x .s .now) o) (sym (c .before .pads-end .ensures)) ∙ sym (c .item-at .ensures)
@@ -30,11 +29,11 @@ item-there c =
 there : (c : tie.After-known-told Inv-loop μ-loop)
     → let x = c .before .before .before .before .before .before .before .args in
     let f = c .before .from .given .0 in
-    Located (lookup (x .map)) (x .s .now) (c .before .before .before .before .before .loop .next) (f .0) (f .1 .0) (f .1 .1 .0)
+    Located (lookup (x .map)) (x .s .now) (c .before .before .before .before .before .loop .next) (f .0) (f .1 .0) (f .1 .1 .0) (f .1 .1 .1 .0)
 there c =
     let x = c .before .before .before .before .before .before .before .args in
     let f = c .before .from .given .0 in
-    located (lookup (x .map)) (x .s .now) _ (f .0) (f .1 .0) (f .1 .1 .0) (item-there (c .before .before .before) ∙ ap (itemOf (x .s .now)) (c .before .from .given .1))
+    located (lookup (x .map)) (x .s .now) _ (f .0) (f .1 .0) (f .1 .1 .0) (f .1 .1 .1 .0) (item-there (c .before .before .before) ∙ ap itemOf (c .before .from .given .1))
 
 loop-holds : tie.Need-loop-holds Inv-loop μ-loop
 loop-holds c = let x = c .before .args in (counted-none (walk (lookup (x .map)) (x .s .now) (x .offset)), omega arith, omega arith)
@@ -52,7 +51,7 @@ add-taken : tie.Need-add-taken Inv-loop μ-loop
 add-taken c = omega (arith, there c, there c .facts)
 
 sub-stored : tie.Need-sub-stored Inv-loop μ-loop
-sub-stored c = there c .ordered
+sub-stored c = omega (arith, there c .facts)
 
 add-stored : tie.Need-add-stored Inv-loop μ-loop
 add-stored c = omega (arith, there c, there c .facts)
@@ -64,8 +63,8 @@ loop-again : tie.Need-loop-again Inv-loop μ-loop
 loop-again c = let s = c .before .before .before .before .before in
     let x = s .before .before .args in
     let f = c .before .from .given .0 in
-    let e = item-there (c .before .before .before) ∙ ap (itemOf (x .s .now)) (c .before .from .given .1) in (
-      sym (rw (there c .size) at (counts-on (lookup (x .map)) (x .s .now) (s .loop .next) (s .loop .taken) (s .loop .stored) e)) ∙ s .loop .inv .0,
+    let e = item-there (c .before .before .before) ∙ ap itemOf (c .before .from .given .1) in (
+      sym (counts-on (lookup (x .map)) (x .s .now) (s .loop .next) (s .loop .taken) (s .loop .stored) e) ∙ s .loop .inv .0,
       omega (arith, there c, there c .facts),
       omega (arith, there c, there c .facts),
     )
@@ -76,7 +75,7 @@ enum-known-stop c = search needs
 returns : tie.Need-returns Inv-loop μ-loop
 returns c = let s = c .before .before .before .before .before in
     let x = s .before .before .args in
-    let e = item-there (c .before .before .before) ∙ ap (itemOf (x .s .now)) (c .before .stop .given .1) in
+    let e = item-there (c .before .before .before) ∙ ap itemOf (c .before .stop .given .1) in
     sym (counts-end (lookup (x .map)) (x .s .now) (s .loop .next) (s .loop .taken) (s .loop .stored) e) ∙ s .loop .inv .0
 
 enum-known-refusal : tie.Need-enum-known-refusal Inv-loop μ-loop
@@ -85,7 +84,7 @@ enum-known-refusal c = search needs
 returns-2 : tie.Need-returns-2 Inv-loop μ-loop
 returns-2 c = let s = c .before .before .before .before .before in
     let x = s .before .before .args in
-    let e = item-there (c .before .before .before) ∙ ap (itemOf (x .s .now)) (c .before .refusal .given .1) in
+    let e = item-there (c .before .before .before) ∙ ap itemOf (c .before .refusal .given .1) in
     sym (counts-end (lookup (x .map)) (x .s .now) (s .loop .next) (s .loop .taken) (s .loop .stored) e) ∙ s .loop .inv .0
 
 pub walk-blocks-spec : {M : Type 1} → statement M
