@@ -5,10 +5,11 @@ use conversion::convert::Medium;
 fn image(bytes: &[u8]) {
     let mut at: usize = 0;
     while at < bytes.len() {
-        let left = bytes.len() - at;
-        let end = if left < 32 { bytes.len() } else { at + 32 };
-        tell::bytes(&bytes[at..end]);
-        at = end;
+        tell::front(&bytes[at..], 32);
+        if bytes.len() - at < 32 {
+            return;
+        }
+        at += 32;
     }
 }
 

@@ -1,68 +1,50 @@
+-- `conversion_cases::image` is safe and ends: the lines so far lie within the bytes, and each is followed by fewer.
+use borrow.Author.Needs.{needs}
+use Prim.Native.Nat.{_≤_, _-_}
+use lib.ListN.{length}
 use Rattle.conversion_cases.proofs.image.Statement.{statement}
 use Rattle.conversion_cases.proofs.image.Tie as tie
-use Rattle.conversion_cases.proofs.image.Reads as reads
-use Rattle.conversion_cases.proofs.image.Lts as lts
-use Rattle.tell.proofs.bytes.Reads as bytes-reads
 
 abbrev Inv-loop : tie.InvT-loop
-Inv-loop bytes at₀ at = ?
+Inv-loop bytes at₀ at = at ≤ length bytes
 
 abbrev μ-loop : tie.MeasureT-loop
-μ-loop bytes at₀ at = ?
+μ-loop bytes at₀ at = length bytes - at
 
--- src/main.rt:7:5
 loop-holds : tie.Need-loop-holds Inv-loop μ-loop
-loop-holds c = ?
+loop-holds c = search needs
 
--- src/main.rt:8:20
-sub-left : tie.Need-sub-left Inv-loop μ-loop
-sub-left c = ?
+sub-front : tie.Need-sub-front Inv-loop μ-loop
+sub-front c = search needs
 
--- src/main.rt:9:55
-add-end : tie.Need-add-end Inv-loop μ-loop
-add-end c = ?
+part-front-start : tie.Need-part-front-start Inv-loop μ-loop
+part-front-start c = search needs
 
--- src/main.rt:10:21
-sub-bytes : tie.Need-sub-bytes Inv-loop μ-loop
-sub-bytes c = ?
+part-front-end : tie.Need-part-front-end Inv-loop μ-loop
+part-front-end c = search needs
 
--- src/main.rt:10:21
-part-bytes-start : tie.Need-part-bytes-start Inv-loop μ-loop
-part-bytes-start c = ?
+front-requires : tie.Need-front-requires Inv-loop μ-loop
+front-requires c κs = search needs
 
--- src/main.rt:10:21
-part-bytes-end : tie.Need-part-bytes-end Inv-loop μ-loop
-part-bytes-end c = ?
+sub-if1 : tie.Need-sub-if1 Inv-loop μ-loop
+sub-if1 c = search needs
 
--- src/main.rt:10:9
-bytes-requires : tie.Need-bytes-requires Inv-loop μ-loop
-bytes-requires c κs = ?
-
--- src/main.rt:7:5
-loop-less : tie.Need-loop-less Inv-loop μ-loop
-loop-less c = ?
-
--- src/main.rt:7:5
-loop-again : tie.Need-loop-again Inv-loop μ-loop
-loop-again c = ?
-
--- src/main.rt:5:1
 returns : tie.Need-returns Inv-loop μ-loop
-returns c = ?
+returns c = search needs
+
+add-at : tie.Need-add-at Inv-loop μ-loop
+add-at c = search needs
+
+loop-less : tie.Need-loop-less Inv-loop μ-loop
+loop-less c = search needs
+
+loop-again : tie.Need-loop-again Inv-loop μ-loop
+loop-again c = search needs
+
+returns-2 : tie.Need-returns-2 Inv-loop μ-loop
+returns-2 c = search needs
 
 pub image-spec : {M : Type 1} → statement M
 image-spec =
     tie.close
-    (tie.spec
-    Inv-loop
-    μ-loop
-    loop-holds
-    sub-left
-    add-end
-    sub-bytes
-    part-bytes-start
-    part-bytes-end
-    bytes-requires
-    loop-less
-    loop-again
-    returns)
+    (tie.spec Inv-loop μ-loop loop-holds sub-front part-front-start part-front-end front-requires sub-if1 returns add-at loop-less loop-again returns-2)
