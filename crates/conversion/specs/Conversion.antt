@@ -32,8 +32,8 @@ converted medium plan n = if ltb 32768 (length plan) then refusalLine 11 0 else 
 abbrev pub written : Medium → List ℕ → ℕ → List ℕ
 written medium plan n = fitting (converted medium plan n) n
 
--- what is answered and left for the plan in a file: r bytes, and last of an output m. No contract can say which bytes are read: they are
--- some plan, and of a longer input no more than one byte past the limit
+-- what is answered and left for the plan in a file: r bytes, and last of an output m. The plan is what was read, and no contract can say
+-- which bytes these are; of a longer input one byte past the limit is read at most
 pub record FromFile (medium : Medium) (m : List ℕ) (r : ℕ) (last : List ℕ) : Type 0 where
   pub plan : List ℕ
   pub read : length plan ≤ 32769

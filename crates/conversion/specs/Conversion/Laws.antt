@@ -28,56 +28,55 @@ fitting-length d n = go (leb (length d) n) refl
     go false e = omega arith
 
 -- an image that was packed for n bytes has n at most
-pub image-fits : (medium : Medium) (plan : List ℕ) (n : ℕ) {image : List ℕ} → packFor medium plan n ≡ packs image → length image ≤ n
+image-fits : (medium : Medium) (plan : List ℕ) (n : ℕ) {image : List ℕ} → packFor medium plan n ≡ packs image → length image ≤ n
 unfolding packFor packAplx packSrom
 image-fits Aplx plan n e = accepted-facts aplxImage (readPlan 32 plan) n e .fits
 image-fits Srom plan n e = accepted-facts sromImage (readPlan 4 plan) n e .fits
 
-module _ (medium : Medium) (plan : List ℕ) where
+module _ (medium : Medium) (plan : List ℕ) (n : ℕ) where
   -- what the function answers and leaves: r and last, of an output m of n bytes
-  pub record Done (m : List ℕ) (n r : ℕ) (last : List ℕ) : Type 0 where
+  pub record Done (m : List ℕ) (r : ℕ) (last : List ℕ) : Type 0 where
     pub length-is : r ≡ length (written medium plan n)
     pub output-is : last ≡ store m 0 (written medium plan n)
     pub inside : r ≤ n
 
-  done : (m : List ℕ) (n r : ℕ) (last : List ℕ) → r ≡ length (written medium plan n) → last ≡ store m 0 (written medium plan n) → Done m n r last
-  done m n r last a b = record { length-is = a; output-is = b; inside = omega (arith, a, fitting-length (converted medium plan n) n) }
+  done : (m : List ℕ) (r : ℕ) (last : List ℕ) → r ≡ length (written medium plan n) → last ≡ store m 0 (written medium plan n) → Done m r last
+  done m r last a b = record { length-is = a; output-is = b; inside = omega (arith, a, fitting-length (converted medium plan n) n) }
 
-  module _ (n : ℕ) where
-    pub too-long : 32768 < length plan → (m : List ℕ) (r : ℕ) (last : List ℕ)
-        → r ≡ length (fitting (refusalLine 11 0) n) → last ≡ store m 0 (fitting (refusalLine 11 0) n) → Done m n r last
-    unfolding converted
-    too-long h m r last a b =
-        let e : converted medium plan n ≡ refusalLine 11 0 = rw (lt-ltb 32768 (length plan) h) in
-        done m n r last (rw e a) (rw e b)
+  pub too-long : 32768 < length plan → (m : List ℕ) (r : ℕ) (last : List ℕ)
+      → r ≡ length (fitting (refusalLine 11 0) n) → last ≡ store m 0 (fitting (refusalLine 11 0) n) → Done m r last
+  unfolding converted
+  too-long h m r last a b =
+      let e : converted medium plan n ≡ refusalLine 11 0 = rw (lt-ltb 32768 (length plan) h) in
+      done m r last (rw e a) (rw e b)
 
-    short : length plan ≤ 32768 → converted medium plan n ≡ shown (packFor medium plan n)
-    unfolding converted
-    short h = rw (le-ltb 32768 (length plan) h)
+  short : length plan ≤ 32768 → converted medium plan n ≡ shown (packFor medium plan n)
+  unfolding converted
+  short h = rw (le-ltb 32768 (length plan) h)
 
-    -- what the packer answered of a plan that is short enough, and what it left of an output m of n bytes
-    module _ (h : length plan ≤ 32768) (m left : List ℕ) (kept : left ≡ outputAfter (packFor medium plan n) m) where
-      pub packed-case : (size : ℕ) → sized size ≡ outcomeOf (packFor medium plan n) → Done m n size left
-      packed-case size e = let w = go (packFor medium plan n) refl e kept in done m n size left (rw (short h) (w .0)) (rw (short h) (w .1))
-        where
-          go : (r : Packed) → packFor medium plan n ≡ r → sized size ≡ outcomeOf r → left ≡ outputAfter r m
-              → (size ≡ length (fitting (shown r) n)) × (left ≡ store m 0 (fitting (shown r) n))
-          go (refuses x p) q e k = let z : _≡_ {A = ℕ} 0 1 = cc in absurd (omega arith)
-          go (packs image) q e k =
-              let f = image-fits medium plan n q in
-              let z : size ≡ length image = cc in
-              rw (le-leb (length image) n f) (z, k)
+  -- what the packer answered of a plan that is short enough, and what it left of an output m of n bytes
+  module _ (h : length plan ≤ 32768) (m left : List ℕ) (kept : left ≡ outputAfter (packFor medium plan n) m) where
+    pub packed-case : (size : ℕ) → sized size ≡ outcomeOf (packFor medium plan n) → Done m size left
+    packed-case size e = let w = go (packFor medium plan n) refl e kept in done m size left (rw (short h) (w .0)) (rw (short h) (w .1))
+      where
+        go : (r : Packed) → packFor medium plan n ≡ r → sized size ≡ outcomeOf r → left ≡ outputAfter r m
+            → (size ≡ length (fitting (shown r) n)) × (left ≡ store m 0 (fitting (shown r) n))
+        go (refuses x p) q e k = let z : _≡_ {A = ℕ} 0 1 = cc in absurd (omega arith)
+        go (packs image) q e k =
+            let f = image-fits medium plan n q in
+            let z : size ≡ length image = cc in
+            rw (le-leb (length image) n f) (z, k)
 
-      -- and the line that was then written
-      pub refused-case : (x p : ℕ) → refusal x p ≡ outcomeOf (packFor medium plan n) → length m ≡ n → (r : ℕ) (last : List ℕ)
-          → r ≡ length (fitting (refusalLine x p) (length left)) → last ≡ store left 0 (fitting (refusalLine x p) (length left))
-          → Done m n r last
-      refused-case x p e l r last a b = let w = go (packFor medium plan n) e kept in done m n r last (rw (short h) (w .0)) (rw (short h) (w .1))
-        where
-          go : (q : Packed) → refusal x p ≡ outcomeOf q → left ≡ outputAfter q m
-              → (r ≡ length (fitting (shown q) n)) × (last ≡ store m 0 (fitting (shown q) n))
-          go (refuses y i) e k =
-              let u : y ≡ x = cc in
-              let v : i ≡ p = cc in
-              rw (u, v) (rw (k, l) at a, rw (k, l) at b)
-          go (packs image) e k = let z : _≡_ {A = ℕ} 0 1 = cc in absurd (omega arith)
+    -- and the line that was then written
+    pub refused-case : (x p : ℕ) → refusal x p ≡ outcomeOf (packFor medium plan n) → length m ≡ n → (r : ℕ) (last : List ℕ)
+        → r ≡ length (fitting (refusalLine x p) (length left)) → last ≡ store left 0 (fitting (refusalLine x p) (length left))
+        → Done m r last
+    refused-case x p e l r last a b = let w = go (packFor medium plan n) e kept in done m r last (rw (short h) (w .0)) (rw (short h) (w .1))
+      where
+        go : (q : Packed) → refusal x p ≡ outcomeOf q → left ≡ outputAfter q m
+            → (r ≡ length (fitting (shown q) n)) × (last ≡ store m 0 (fitting (shown q) n))
+        go (refuses y i) e k =
+            let u : y ≡ x = cc in
+            let v : i ≡ p = cc in
+            rw (u, v) (rw (k, l) at a, rw (k, l) at b)
+        go (packs image) e k = let z : _≡_ {A = ℕ} 0 1 = cc in absurd (omega arith)

@@ -14,7 +14,7 @@ use Rattle.conversion.proofs.convert.convert.Statement.{statement}
 use Rattle.conversion.proofs.convert.convert.Tie as tie
 
 -- the three parts of the promise
-answered : {medium : Medium} {plan m : List ℕ} {n r : ℕ} {last : List ℕ} → Done medium plan m n r last
+answered : {medium : Medium} {plan m : List ℕ} {n r : ℕ} {last : List ℕ} → Done medium plan n m r last
     → (r ≡ length (written medium plan n)) × ((last ≡ store m 0 (written medium plan n)) × (r ≤ n))
 answered d = (d .length-is, (d .output-is, d .inside))
 
