@@ -328,12 +328,20 @@ def pack_aplx(plan, output):
     return 'packed %d' % len(image)
 
 
-def plan_to_aplx(plan):
-    """What the program writes for what it reads."""
+def converted(pack, plan):
+    """What a program writes for what it reads: plans up to 32,768 bytes, images up to 65,536."""
     if len(plan) > 32768:
         return b'refused 11 at 0\n'
     output = bytearray(65536)
-    answer = pack_aplx(plan, output)
+    answer = pack(plan, output)
     if answer.startswith('refused'):
         return answer.encode() + b'\n'
     return bytes(output[:int(answer.split()[1])])
+
+
+def plan_to_aplx(plan):
+    return converted(pack_aplx, plan)
+
+
+def plan_to_srom(plan):
+    return converted(pack_srom, plan)

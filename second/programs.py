@@ -1,13 +1,13 @@
 #!/usr/bin/env python3
-"""The inputs of the program plan_to_aplx and of its cases, and what each must write.
+"""The inputs of the programs plan_to_aplx, plan_to_srom and conversion_cases, and what each must write.
 
-programs.py write: stores them as crates/NAME/stdin and stdout.
-programs.py: fails where a stored file is another.
+programs.py write: stores them as crates/NAME/stdin, stdout and data/FILE.
+programs.py: fails where a stored file is another, or another file is stored.
 """
 import os
 import sys
 
-from model import plan_to_aplx
+from model import plan_to_aplx, plan_to_srom
 
 here = os.path.dirname(os.path.abspath(__file__))
 crates = os.path.join(here, '..', 'crates')
@@ -34,29 +34,69 @@ table = bytes(k * 7 % 256 for k in range(21824))
 puts = [(1, 0x60000000 + 0x10000 * k, len(table), 0) for k in range(3)]
 run = (3, 0x60000000, 0, 0)
 
-inputs = {
-    'plan_to_aplx': hex_text('coefficients.plan.hex'),
-    # a put of 20 bytes
-    'case_refused': plan([(2, 0x400000, 32, 0), (1, 0x400000, 20, 0)], bytes(20)),
-    # a plan of 32,768 bytes whose image has 65,536
-    'case_largest': plan(puts, table, 32768),
-    # one entry more in the image
-    'case_larger': plan(puts + [run], table, 32768),
+# a put and a fill: 2 + 2 x 7 bytes, and 32,720 and 32,800 of data
+long = bytes(k * 5 % 251 for k in range(32720))
+put_and_fill = [(1, 0x60000000, len(long), 0), (2, 0x60010000, 32800, 0x01020304)]
+
+coefficients = hex_text('coefficients.plan.hex')
+
+# the files of conversion_cases, in the order in which it converts them
+files = {
+    'coefficients': coefficients,
+    'empty': b'',
+    # a put of 20 bytes: a serial ROM has it, APLX does not
+    'refused': plan([(2, 0x400000, 32, 0), (1, 0x400000, 20, 0)], bytes(20)),
+    # a fill of 6 bytes
+    'refused_by_both': plan([(2, 0x400000, 32, 0), (2, 0x400000, 6, 0)], b''),
+    # a plan of 32,768 bytes whose APLX image has 65,536
+    'largest': plan(puts, table, 32768),
+    # one entry more in the APLX image
+    'larger': plan(puts + [run], table, 32768),
     # a byte more in the plan
-    'case_too_long': plan(puts, table, 32769),
-    'case_empty': b'',
+    'too_long': plan(puts, table, 32769),
+    # a plan of 32,768 bytes whose serial ROM image has 65,536
+    'srom_largest': plan(put_and_fill, long),
+    # a fill of 65,528 bytes: a byte more in the serial ROM image
+    'srom_larger': plan([(2, 0x60000000, 65528, 0x01020304)], b''),
 }
 
+
+def shown(data):
+    """A refusal as it stands, an image as hex, 32 bytes to a line."""
+    if data.startswith(b'refused '):
+        return data
+    return b''.join(data[k:k + 32].hex().encode() + b'\n' for k in range(0, len(data), 32))
+
+
+def case(name, medium, data):
+    return b'%s, %s: %d bytes\n' % (name.encode(), medium, len(data)) + shown(data)
+
+
+cases = b''.join(case(name, b'APLX', plan_to_aplx(s)) + case(name, b'SROM', plan_to_srom(s)) for name, s in files.items())
+
+stored = {
+    'plan_to_aplx/stdin': coefficients,
+    'plan_to_aplx/stdout': plan_to_aplx(coefficients),
+    'plan_to_srom/stdin': coefficients,
+    'plan_to_srom/stdout': plan_to_srom(coefficients),
+    'conversion_cases/stdout': cases,
+}
+stored.update(('conversion_cases/data/' + name, s) for name, s in files.items())
+
 different = 0
-for name, stdin in inputs.items():
-    for kind, expected in (('stdin', stdin), ('stdout', plan_to_aplx(stdin))):
-        path = os.path.join(crates, name, kind)
-        if sys.argv[1:] == ['write']:
-            with open(path, 'wb') as f:
-                f.write(expected)
-        else:
-            with open(path, 'rb') as f:
-                if f.read() != expected:
-                    print('%s: not what the second program writes' % path)
-                    different = 1
+for name, expected in stored.items():
+    path = os.path.join(crates, name)
+    if sys.argv[1:] == ['write']:
+        os.makedirs(os.path.dirname(path), exist_ok=True)
+        with open(path, 'wb') as f:
+            f.write(expected)
+    else:
+        with open(path, 'rb') as f:
+            if f.read() != expected:
+                print('%s: not what the second program writes' % path)
+                different = 1
+for name in os.listdir(os.path.join(crates, 'conversion_cases', 'data')):
+    if name not in files:
+        print('%s: the second program does not write it' % name)
+        different = 1
 sys.exit(different)

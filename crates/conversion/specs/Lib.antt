@@ -1,2 +1,3 @@
--- A plan as an APLX image, as bytes to be written to a file.
+-- A plan as an image for a medium, as bytes to be written to a file.
 pub mod Conversion
+pub mod Examples

@@ -1,3 +1,3 @@
-// A plan as an APLX image, as bytes to be written to a file.
+// A plan as an image for a medium, as bytes to be written to a file.
 pub mod convert; // the bytes
 pub mod program; // from standard input to standard output

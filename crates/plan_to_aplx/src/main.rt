@@ -1,4 +1,6 @@
 // A plan from standard input becomes an APLX image, or the line of a refusal, on standard output.
+use conversion::convert::Medium;
+
 fn main() {
-    conversion::program::run();
+    conversion::program::run(Medium::Aplx);
 }

@@ -7,15 +7,15 @@ use Prim.Native.Nat.{ℕ, _≤_}
 use lib.ListN.{length}
 use Rattle.words.specs.Store.{store}
 use Rattle.plan.specs.Code.Packer.{outcomeIs}
-use Rattle.text.specs.Refusal.{fitting}
-use Rattle.conversion.specs.Conversion.{converted}
+use Rattle.conversion.specs.declared.convert.Medium.{Medium}
+use Rattle.conversion.specs.Conversion.{written}
 use Rattle.conversion.specs.Conversion.Laws.{Done, too-long, packed-case, refused-case}
 use Rattle.conversion.proofs.convert.convert.Statement.{statement}
 use Rattle.conversion.proofs.convert.convert.Tie as tie
 
 -- the three parts of the promise
-answered : {plan m : List ℕ} {n r : ℕ} {last : List ℕ} → Done plan m n r last
-    → (r ≡ length (fitting (converted plan n) n)) × ((last ≡ store m 0 (fitting (converted plan n) n)) × (r ≤ n))
+answered : {medium : Medium} {plan m : List ℕ} {n r : ℕ} {last : List ℕ} → Done medium plan n m r last
+    → (r ≡ length (written medium plan n)) × ((last ≡ store m 0 (written medium plan n)) × (r ≤ n))
 answered d = (d .length-is, (d .output-is, d .inside))
 
 cast-put : tie.Need-cast-put
@@ -31,7 +31,7 @@ returns : tie.Need-returns
 returns c =
     let x = c .before .before .before .before .before .before .before .args in
     let w = c .before .before .put .ensures in
-    answered (too-long (x .plan .now) (length (x .output .now)) (omega arith) (x .output .now) _ _ (w .0) (w .1))
+    answered (too-long (x .medium) (x .plan .now) (length (x .output .now)) (omega arith) (x .output .now) _ _ (w .0) (w .1))
 
 pack-requires : tie.Need-pack-requires
 pack-requires c κs = search needs
@@ -55,7 +55,7 @@ returns-2 : tie.Need-returns-2
 returns-2 c =
     let x = c .before .before .before .before .before .before .before .before .before .before .args in
     let w = c .before .before .before .before .before .pack in
-    answered (packed-case (x .plan .now) (length (x .output .now)) (omega arith) (x .output .now) (w .last .1 .0) (w .ensures .1) (c .before .size .given .0 .0)
+    answered (packed-case (x .medium) (x .plan .now) (length (x .output .now)) (omega arith) (x .output .now) (w .last .1 .1 .0) (w .ensures .1) (c .before .size .given .0 .0)
     (sym (ap outcomeIs (c .before .size .given .1)) ∙ w .ensures .0))
 
 same-length-3 : tie.Need-same-length-3
@@ -67,7 +67,7 @@ returns-3 c =
     let w = c .before .before .before .before .before .before .before .before .before .before .pack in
     let r = c .before .before .before .before .before .before .refusal .given in
     let p = c .before .before .put2 .ensures in
-    answered (refused-case (x .plan .now) (length (x .output .now)) (omega arith) (x .output .now) (w .last .1 .0) (w .ensures .1)
+    answered (refused-case (x .medium) (x .plan .now) (length (x .output .now)) (omega arith) (x .output .now) (w .last .1 .1 .0) (w .ensures .1)
     (r .0 .0 .number) (r .0 .0 .place) (sym (ap outcomeIs (r .1)) ∙ w .ensures .0) refl
     (c .before .before .put2 .result) (c .before .before .put2 .last .0) (p .0) (p .1))
 

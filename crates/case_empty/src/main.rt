@@ -1,4 +1,0 @@
-// No input.
-fn main() {
-    conversion::program::run();
-}

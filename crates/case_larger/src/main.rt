@@ -1,4 +1,0 @@
-// One entry more in the image.
-fn main() {
-    conversion::program::run();
-}

@@ -1,4 +1,0 @@
-// A put of 20 bytes.
-fn main() {
-    conversion::program::run();
-}

@@ -1,4 +1,0 @@
-// A plan of 32,769 bytes.
-fn main() {
-    conversion::program::run();
-}

@@ -1,0 +1,34 @@
+-- `conversion::convert::pack` meets its contract: each medium has its packer.
+use borrow.Author.Needs.{needs}
+use Rattle.conversion.specs.Conversion.{packFor}
+use Rattle.conversion.proofs.convert.pack.Statement.{statement}
+use Rattle.conversion.proofs.convert.pack.Tie as tie
+
+enum-told : tie.Need-enum-told
+enum-told c = search needs
+
+pack-requires : tie.Need-pack-requires
+pack-requires c κs = search needs
+
+enum-told-2 : tie.Need-enum-told-2
+enum-told-2 c = search needs
+
+pack-requires-2 : tie.Need-pack-requires-2
+pack-requires-2 c κs = search needs
+
+same-length : tie.Need-same-length
+same-length c = search needs
+
+returns : tie.Need-returns
+unfolding packFor
+returns c = simp (c .before .before .before .before .enum-told .given .1) (c .before .before .pack .ensures)
+
+same-length-2 : tie.Need-same-length-2
+same-length-2 c = search needs
+
+returns-2 : tie.Need-returns-2
+unfolding packFor
+returns-2 c = simp (c .before .before .before .before .enum-told2 .given .1) (c .before .before .pack2 .ensures)
+
+pub pack-spec : {M : Type 1} → statement M
+pack-spec = tie.close (tie.spec enum-told pack-requires enum-told-2 pack-requires-2 same-length returns same-length-2 returns-2)
