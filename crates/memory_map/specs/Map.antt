@@ -1,6 +1,7 @@
 -- The map (paper 01, "Memory map").
 pub mod Laws
 pub mod Ascending
+pub mod Added
 use mathlib.Core.Bool.{Bool, true, false, _&&_}
 use mathlib.Core.List.{List, [], _∷_}
 use Prim.Native.Nat.{ℕ, _+_}
