@@ -37,7 +37,9 @@ extern "C" {
 #define REIDHINTSJE_WRITE 2u
 #define REIDHINTSJE_RUN 4u
 
-/* Adds a region at the map's end. 0: added. 1: refused, and the table is as it was. */
+/* Adds a region at the map's end. 0: added, and the table is written anew from the map: in all eight regions, those past the count too,
+ * the higher bits of the rights are then 0; bases, lengths and places of the other regions are as they were. 1: refused, and the table is
+ * as it was. */
 uint32_t reidhintsje_map_add(uint8_t *map, size_t map_length, uint32_t base, uint32_t length, uint32_t place, uint32_t rights);
 
 /* ---- the loaders

@@ -56,17 +56,24 @@ pub fn map_of(table: &[u8]) -> Option<Map> {
 /// The table of a map of at most 8 regions, with zeros past the last one.
 pub fn table_of(map: &Map) -> Vec<u8> {
     let mut table = vec![0; TABLE];
-    put_le32(&mut table, 0, map.regions.len() as u32);
-    for (index, region) in map.regions.iter().enumerate() {
-        write_region(&mut table, index, region);
-    }
+    write_map(&mut table, map);
     table
 }
 
-fn write_region(table: &mut [u8], index: usize, region: &Region) {
-    let words = [region.base, region.length, region.place, region.rights.number()];
-    for (k, word) in words.iter().enumerate() {
-        put_le32(table, 4 + 16 * index + 4 * k, *word);
+/// Writes a map over a table. A region past the count keeps its words, but of the rights the three bits that say
+/// something: the header says that a taken addition clears the higher bits in all eight regions.
+fn write_map(table: &mut [u8], map: &Map) {
+    put_le32(table, 0, map.regions.len() as u32);
+    for (index, region) in map.regions.iter().enumerate() {
+        let words = [region.base, region.length, region.place, region.rights.number()];
+        for (k, word) in words.iter().enumerate() {
+            put_le32(table, 4 + 16 * index + 4 * k, *word);
+        }
+    }
+    for index in map.regions.len()..MOST_REGIONS {
+        let rights = 16 + 16 * index;
+        let word = le32(table, rights) & 7;
+        put_le32(table, rights, word);
     }
 }
 
@@ -146,11 +153,9 @@ impl Library for Reference {
     fn map_add(&self, table: &mut [u8], base: u32, length: u32, place: u32, rights: u32) -> u32 {
         let Some(mut map) = map_of(table) else { return 1 };
         let region = Region { base, length, place, rights: Rights::from_number(rights) };
-        let index = map.regions.len();
         match map.add(region) {
             Ok(()) => {
-                write_region(table, index, &region);
-                put_le32(table, 0, index as u32 + 1);
+                write_map(table, &map);
                 0
             }
             Err(refusal) => refusal.number,

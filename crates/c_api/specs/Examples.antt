@@ -12,29 +12,40 @@ use Rattle.words.specs.Store.{store}
 use Rattle.outcome.specs.Outcome as load
 use Rattle.outcome.specs.Outcome.{arm, thumb, end, unknown, run}
 use Rattle.memory_map.specs.Region.{keepsRules, clear, endsInside}
-use Rattle.memory_map.specs.Map.{emptyMap, regionsOf, allKeepRules, wellFormed, sound, extended, add, taken, refused}
+use Rattle.memory_map.specs.Map.{emptyMap, regionsOf, allKeepRules, wellFormed, sound, extended, Addition, add, taken, refused}
 use Rattle.plan.specs.Code as read
 use Rattle.plan.specs.Packed as packed
 use Rattle.scp.specs.Answer as scp
-use Rattle.c_api.specs.Table.{rightsOf, regionOf, regionIn, regionsIn, mapOf, tableWith, verdictOn, tableAfter}
+use Rattle.c_api.specs.Table.{rightsOf, regionOf, regionIn, regionsIn, mapOf, rightsNumber, regionBytes, regionsBytes, tableOf, tableAfter}
 use Rattle.c_api.specs.Numbers.{loadNumbers, readNumbers, packNumbers, unitAt, replyNumbers}
+
+-- an addition to a table, and the table after it
+abbrev added : List ℕ → ℕ → ℕ → ℕ → ℕ → Addition
+added t b n p w = add (mapOf t) (regionOf b n p w)
+
+abbrev after : List ℕ → ℕ → ℕ → ℕ → ℕ → List ℕ
+after t b n p w = tableAfter t (added t b n p w)
 
 -- the empty map, and the tables after one and after two additions
 zeros : List ℕ
 zeros = replicate 132 0
 
 one : List ℕ
-one = tableAfter zeros 4096 256 0 7
+one = after zeros 4096 256 0 7
 
 two : List ℕ
-two = tableAfter one 8192 64 256 0xfffffff9
+two = after one 8192 64 256 0xfffffff9
+
+-- the table of one region, with higher bits in the rights of that region and of the last one
+higher : List ℕ
+higher = store (store one 16 (255 ∷ 255 ∷ [])) 128 (254 ∷ [])
 
 record Tables : Type 0 where
   pub empty : mapOf zeros ≡ emptyMap
   pub short : sound (mapOf (replicate 131 0)) 0 ≡ false
   pub long : sound (mapOf (replicate 133 0)) 0 ≡ false
   pub whole : sound (mapOf zeros) 0 ≡ true
-  pub first : verdictOn zeros 4096 256 0 7 ≡ taken
+  pub first : added zeros 4096 256 0 7 .verdict ≡ taken
   pub first-bytes : take 24 one ≡ 1 ∷ 0 ∷ 0 ∷ 0 ∷ 0 ∷ 16 ∷ 0 ∷ 0 ∷ 0 ∷ 1 ∷ 0 ∷ 0 ∷ 0 ∷ 0 ∷ 0 ∷ 0 ∷ 7 ∷ 0 ∷ 0 ∷ 0 ∷ 0 ∷ 0 ∷ 0 ∷ 0 ∷ []
   -- of the rights the low three bits are kept
   pub second-bytes : take 16 (drop 20 two) ≡ 0 ∷ 32 ∷ 0 ∷ 0 ∷ 64 ∷ 0 ∷ 0 ∷ 0 ∷ 0 ∷ 1 ∷ 0 ∷ 0 ∷ 1 ∷ 0 ∷ 0 ∷ 0 ∷ []
@@ -45,12 +56,14 @@ record Tables : Type 0 where
   pub writing : rightsOf 2 ≡ record { read = false; write = true; run = false }
   pub running : rightsOf 4 ≡ record { read = false; write = false; run = true }
   -- a base that is no multiple of 4, and a region that shares an address
-  pub unaligned : verdictOn zeros 2 256 0 7 ≡ refused 1 0
-  pub shared : verdictOn one 4348 64 256 7 ≡ refused 1 0
-  pub shared-bytes : tableAfter one 4348 64 256 7 ≡ one
+  pub unaligned : added zeros 2 256 0 7 .verdict ≡ refused 1 0
+  pub shared : added one 4348 64 256 7 .verdict ≡ refused 1 0
+  -- higher bits stay where an addition is refused, and are cleared in all eight regions where it is taken
+  pub shared-bytes : after higher 4348 64 256 7 ≡ higher
+  pub cleared-bytes : after higher 8192 64 256 1 ≡ store two 128 (6 ∷ [])
 
 tables : Tables
-unfolding mapOf regionsIn regionIn regionOf rightsOf fourBytes tableWith verdictOn tableAfter zeros one two add extended wellFormed allKeepRules sound regionsOf every keepsRules clear endsInside meets store littleEndian fromLittleEndian firstBytes littleEndianAt
+unfolding mapOf regionsIn regionIn regionOf rightsOf fourBytes rightsNumber regionBytes regionsBytes tableOf tableAfter zeros one two higher add extended wellFormed allKeepRules sound regionsOf every keepsRules clear endsInside meets store littleEndian fromLittleEndian firstBytes littleEndianAt
 tables =
     record {
       empty = refl;
@@ -66,6 +79,7 @@ tables =
       unaligned = refl;
       shared = refl;
       shared-bytes = refl;
+      cleared-bytes = refl;
     }
 
 record Loads : Type 0 where

@@ -1,19 +1,20 @@
 -- A map as a table of bytes that the caller lends: 132 bytes, Little Endian words. Word 0 is the count of regions; behind it stand eight
 -- regions of four words each, base, length, place and rights.
 pub mod Laws
-pub mod Added
-use mathlib.Core.List.{List, [], _∷_}
-use Prim.Native.Nat.{ℕ, zero, suc, _+_, _*_, _/_, _%_}
+pub mod Written
+pub mod Put
+use mathlib.Core.Bool.{Bool}
+use mathlib.Core.List.{List, [], _∷_, _++_}
+use Prim.Native.Nat.{ℕ, zero, suc, _+_, _/_, _%_}
 use lib.Dec.{eqb}
 use lib.ListN.{length, replicate}
 use Rattle.words.specs.Choice.{if_then_else_}
 use Rattle.words.specs.Bytes.{littleEndian, littleEndianAt}
 use Rattle.words.specs.Four.{fourBytes}
-use Rattle.words.specs.Store.{store}
 use Rattle.memory_map.specs.declared.region.Rights.{Rights}
 use Rattle.memory_map.specs.declared.region.Region.{Region}
 use Rattle.memory_map.specs.declared.map.Map.{Map}
-use Rattle.memory_map.specs.Map.{noRegion, Verdict, taken, refused, add}
+use Rattle.memory_map.specs.Map.{noRegion, Verdict, taken, refused, Addition}
 
 -- ---- the map that a table is
 -- rights are 1 for read, 2 for write, 4 for run; higher bits say nothing
@@ -46,26 +47,37 @@ mapOf t =
     if eqb (length t) 132 then record { regions = regionsIn 8 t 4; count = countIn t }
     else noMap
 
+-- ---- the table of a map
+-- rights as a number
+abbrev pub bitOf : Bool → ℕ → ℕ
+bitOf given n = if given then n else 0
+
+unfoldable pub rightsNumber : Rights → ℕ
+rightsNumber r = bitOf (r .read) 1 + bitOf (r .write) 2 + bitOf (r .run) 4
+
+-- the four words of a region
+unfoldable pub regionBytes : Region → List ℕ
+regionBytes g = fourBytes (g .base) (g .length) (g .place) (rightsNumber (g .rights))
+
+unfoldable pub regionsBytes : List Region → List ℕ
+regionsBytes [] = []
+regionsBytes (g ∷ gs) = regionBytes g ++ regionsBytes gs
+
+-- the count, and every region that the map holds, in use or not
+unfoldable pub tableOf : Map → List ℕ
+tableOf m = littleEndian 4 (m .count) ++ regionsBytes (m .regions)
+
 -- ---- an addition
--- the four words of a region; of the rights the three bits that say something
-abbrev pub regionWords : ℕ → ℕ → ℕ → ℕ → List ℕ
-regionWords b n p w = fourBytes b n p (w % 8)
-
--- the table with these four words behind its regions, and the count one higher
-unfoldable pub tableWith : List ℕ → List ℕ → List ℕ
-tableWith t words = store (store t (4 + 16 * countIn t) words) 0 (littleEndian 4 (countIn t + 1))
-
--- what the caller is told, and the table after it: a refused addition leaves it as it was
+-- what the caller is told
 abbrev pub verdictNumber : Verdict → ℕ
 verdictNumber taken = 0
 verdictNumber (refused n p) = n
 
+-- the table t after an addition to its map: a taken one writes the whole table anew, so that higher bits of the rights are 0 in all eight
+-- regions; a refused one leaves every byte as it was
 abbrev pub tableAt : Verdict → List ℕ → List ℕ → List ℕ
 tableAt taken old new = new
 tableAt (refused n p) old new = old
 
-unfoldable pub verdictOn : List ℕ → ℕ → ℕ → ℕ → ℕ → Verdict
-verdictOn t b n p w = add (mapOf t) (regionOf b n p w) .verdict
-
-unfoldable pub tableAfter : List ℕ → ℕ → ℕ → ℕ → ℕ → List ℕ
-tableAfter t b n p w = tableAt (verdictOn t b n p w) t (tableWith t (regionWords b n p w))
+unfoldable pub tableAfter : List ℕ → Addition → List ℕ
+tableAfter t a = tableAt (a .verdict) t (tableOf (a .map))

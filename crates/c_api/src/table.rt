@@ -1,8 +1,10 @@
 // A map as a table of 132 bytes.
 ghost use mathlib.Core.Path.{_≡_};
-ghost use Prim.Native.Nat.{_<_};
+ghost use Prim.Native.Nat.{_≤_};
 ghost use lib.ListN as list;
-ghost use Rattle.c_api.specs.Table.{rightsOf, regionOf, regionIn, countIn, mapOf, regionWords, tableWith, verdictNumber, verdictOn, tableAfter};
+ghost use Rattle.words.specs.Store.{storeIfFits};
+ghost use Rattle.memory_map.specs.Map.{add};
+ghost use Rattle.c_api.specs.Table.{rightsOf, regionOf, regionIn, mapOf, bitOf, rightsNumber, regionBytes, tableOf, verdictNumber, tableAfter};
 use memory_map::map::Map;
 use memory_map::map::Verdict;
 use memory_map::region::Region;
@@ -64,18 +66,41 @@ pub(crate) fn map_of(table: &[u8]) -> Map
     }
 }
 
-// The four words of a region behind those of the table, and the count one higher.
-fn put_region(table: &mut [u8], base: u32, length: u32, place: u32, bits: u32)
-    requires { ⌜ (list.length (now table) ≡ 132) × (countIn (now table) < 8) ⌝ }
-    ensures { λ _. ⌜ now (table .exit) ≡ tableWith (now (table .entry)) (regionWords base length place bits) ⌝ }
+fn bit_of(given: bool, bit: u32) -> u32
+    ensures { λ r. ⌜ r ≡ bitOf given bit ⌝ }
 {
-    let count = le_word_at(table, 0);
-    let at = 4 + 16 * (count as usize);
-    words::four::put(table, at, base, length, place, bits % 8);
-    words::put::le_word(table, 0, count + 1);
+    if given { bit } else { 0 }
 }
 
-// Adds a region at the map's end. A refused addition leaves the table as it was.
+fn number_of(rights: Rights) -> u32
+    ensures { λ r. ⌜ r ≡ rightsNumber rights ⌝ }
+{
+    bit_of(rights.read, 1) + bit_of(rights.write, 2) + bit_of(rights.run, 4)
+}
+
+// The four words of a region at an offset.
+fn put_region(table: &mut [u8], at: usize, region: Region)
+    ensures { λ _. ⌜ now (table .exit) ≡ storeIfFits (now (table .entry)) at (regionBytes region) ⌝ }
+{
+    let rights = number_of(region.rights);
+    words::four::put(table, at, region.base, region.length, region.place, rights);
+}
+
+// The table of a map: the count, and the eight regions.
+fn put_table(table: &mut [u8], map: Map)
+    requires { ⌜ (list.length (now table) ≡ 132) × (map .count ≤ 8) ⌝ }
+    ensures { λ _. ⌜ now (table .exit) ≡ tableOf map ⌝ }
+{
+    words::put::le_word(table, 0, map.count as u32);
+    let mut i: usize = 0;
+    while i < 8 {
+        let region = map.regions[i];
+        put_region(table, 4 + 16 * i, region);
+        i += 1;
+    }
+}
+
+// Adds a region, and writes the table of the map that has it. A refused addition leaves the table as it was.
 #[no_mangle]
 pub extern "C" fn reidhintsje_map_add(
     map: &mut [u8],
@@ -84,8 +109,8 @@ pub extern "C" fn reidhintsje_map_add(
     place: u32,
     rights: u32,
 ) -> u32
-    ensures { λ r. ⌜ r ≡ verdictNumber (verdictOn (now (map .entry)) base length place rights) ⌝ }
-    ensures { λ _. ⌜ now (map .exit) ≡ tableAfter (now (map .entry)) base length place rights ⌝ }
+    ensures { λ r. ⌜ r ≡ verdictNumber (add (mapOf (now (map .entry))) (regionOf base length place rights) .verdict) ⌝ }
+    ensures { λ _. ⌜ now (map .exit) ≡ tableAfter (now (map .entry)) (add (mapOf (now (map .entry))) (regionOf base length place rights)) ⌝ }
 {
     let regions = map_of(map);
     let region = region_of(base, length, place, rights);
@@ -93,7 +118,7 @@ pub extern "C" fn reidhintsje_map_add(
     let verdict = addition.verdict;
     match verdict {
         Verdict::Taken => {
-            put_region(map, base, length, place, rights);
+            put_table(map, addition.map);
             0
         }
         Verdict::Refused(refusal) => refusal.number,

@@ -2,6 +2,7 @@
 pub mod Laws
 pub mod Ascending
 pub mod Injective
+pub mod Added
 use mathlib.Core.Bool.{Bool, true, false, _&&_}
 use mathlib.Core.List.{List, [], _∷_}
 use Prim.Native.Nat.{ℕ, _+_}

@@ -95,13 +95,14 @@ fn the_table() {
     table[116..].fill(0xee);
     assert_eq!(Reference.map_add(&mut table, 0x100, 8, 5, 0xffff_fffb), 0);
     assert_eq!(table[..20], [1, 0, 0, 0, 0, 1, 0, 0, 8, 0, 0, 0, 5, 0, 0, 0, 3, 0, 0, 0]);
-    assert_eq!(table[116..], [0xee; 16]);
+    assert_eq!(table[116..128], [0xee; 12]);
+    assert_eq!(table[128..], [6, 0, 0, 0], "higher bits of the rights are cleared past the count too");
+    table[16] = 0xf3;
     let before = table.clone();
     assert_eq!(Reference.map_add(&mut table, 0x104, 8, 50, 7), 1);
     assert_eq!(table, before);
-    table[16] = 0xf3;
     assert_eq!(Reference.map_add(&mut table, 0x200, 8, 50, 7), 0);
-    assert_eq!(table[16], 0xf3, "an earlier region is left as it was");
+    assert_eq!(table[16], 3, "and in an earlier region");
     table[0] = 9;
     assert_eq!(map_of(&table), None);
     assert_eq!(Reference.map_add(&mut table, 0x300, 8, 100, 7), 1);

@@ -1,13 +1,13 @@
 -- Laws of four words.
 use mathlib.Core.Path.{_≡_, _∙_}
-use mathlib.Core.List.{List, _++_, append-assoc}
-use Prim.Native.Nat.{ℕ, _+_, _-_, _≤_}
+use mathlib.Core.List.{List, [], _++_, append-assoc}
+use Prim.Native.Nat.{ℕ, _+_, _-_, _^_, _≤_, _<_}
 use native.Mathlib.Nat.{add-zero}
 use native.Mathlib.Omega.{arith}
 use lib.ListN.{length, take, drop, replicate, length-append, length-drop, length-replicate}
 use lib.Seq.{take-all}
-use Rattle.words.specs.Bytes.{littleEndian, littleEndianAt}
-use Rattle.words.specs.Bytes.Laws.{length-littleEndian, little-at-past, little-at-drop}
+use Rattle.words.specs.Bytes.{littleEndian, firstBytes, littleEndianAt}
+use Rattle.words.specs.Bytes.Laws.{length-littleEndian, little-at-past, little-at-drop, little-at-behind, little-at-front}
 use Rattle.words.specs.Bytes.Padded.{little-at-padded}
 use Rattle.words.specs.Store.{store, storeIfFits}
 use Rattle.words.specs.Store.Laws.{store-fits, store-behind}
@@ -39,6 +39,18 @@ four-put m p a b c d r s t u h e f g k =
     let two = store-behind m p w x (p + 4) r s (omega arith) (omega arith) one f in
     let three = store-behind m p (w ++ x) y (p + 8) s t (omega arith) (omega arith) two g in
     store-behind m p ((w ++ x) ++ y) (littleEndian 4 d) (p + 12) t u (omega arith) (omega (arith, length-littleEndian 4 d)) three k ∙ simp append-assoc
+
+-- their bytes behind x, read
+module _ (x : List ℕ) (a b c d : ℕ) (s : List ℕ) (ha : a < 256 ^ 4) (hb : b < 256 ^ 4) (hc : c < 256 ^ 4) (hd : d < 256 ^ 4) where
+  pub four-at-behind : fourAt (x ++ (fourBytes a b c d ++ s)) (length x) ≡ record { first = a; second = b; third = c; fourth = d }
+  unfolding fourBytes littleEndian littleEndianAt firstBytes
+  four-at-behind =
+      let w : (j : ℕ) → littleEndianAt 4 (x ++ (fourBytes a b c d ++ s)) (length x + j) ≡ littleEndianAt 4 (fourBytes a b c d ++ s) j = λ j. little-at-behind 4 j x (fourBytes a b c d ++ s) in
+      let p = rw (add-zero (length x)) at (w 0) ∙ little-at-front 4 a [] ha in
+      let q = w 4 ∙ little-at-front 4 b [] hb in
+      let r = w 8 ∙ little-at-front 4 c [] hc in
+      let t = w 12 ∙ little-at-front 4 d [] hd in
+      λ i. record { first = p i; second = q i; third = r i; fourth = t i }
 
 -- the four words of all that stands from place p on
 pub four-at-rest : (p : ℕ) (s : List ℕ) → fourAt (take (length s - p) (drop p s)) 0 ≡ fourAt s p
