@@ -1,4 +1,4 @@
-// The test for destinations over the entries, and the bytes that the commands store.
+// The answer after the walk: the test for destinations over the entries, and the bytes that the commands store.
 ghost use mathlib.Core.Path.{_≡_};
 ghost use mathlib.Core.Bool.{true};
 ghost use Prim.Native.Nat.{_<_};

@@ -3,4 +3,4 @@ pub mod command; // what an entry commands
 pub mod look; // the whole answer
 pub mod walk; // the walk over the entries, to the stop
 mod judge; // the tests of one entry
-mod header; // the test for destinations over the entries
+mod header; // the answer after the walk: the test for destinations over the entries

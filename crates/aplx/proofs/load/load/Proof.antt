@@ -1,7 +1,6 @@
 -- `aplx::load::load` meets its contract: a refused load leaves memory alone; the entries of an accepted one passed the tests that performing them asks for.
 use borrow.Author.Needs.{needs}
 use mathlib.Core.Path.{ap, sym, _∙_}
-use lib.ListN.{length}
 use Rattle.outcome.specs.Outcome.{outcomeOf}
 use Rattle.outcome.specs.Outcome.Laws.{refused-keeps, accepted-leaves}
 use Rattle.memory_map.specs.Lookup.{lookup}

@@ -1,6 +1,6 @@
 -- `aplx_look::look::look_entries` meets its contract: a refusal of the walk is the answer; after a stop the test for destinations over the entries gives it.
 use borrow.Author.Needs.{needs}
-use mathlib.Core.Path.{_≡_, ap, sym, _∙_}
+use mathlib.Core.Path.{_≡_, ap, sym}
 use Rattle.outcome.specs.Outcome.{stops, stopOf}
 use Rattle.memory_map.specs.Lookup.{lookup}
 use Rattle.aplx_look.specs.Code.{endingIs}
