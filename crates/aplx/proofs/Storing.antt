@@ -6,7 +6,7 @@ use Prim.Native.Nat.{ℕ, suc, _+_, _-_, _*_, _≤_, _<_}
 use native.Mathlib.Nat.{sub-zero}
 use native.Mathlib.Omega.{arith}
 use lib.ListN.{length}
-use Rattle.memory_map.specs.declared.region.Right.the-variants.{Read}
+use Rattle.memory_region.specs.declared.region.Right.the-variants.{Read}
 use Rattle.memory_map.specs.Lookup.{Lookup, found, placeOf}
 use Rattle.memory_map.specs.Lookup.Laws.{Lawful, found-at, found-place}
 use Rattle.aplx_look.specs.Command.{Command, commandAt}

@@ -5,7 +5,7 @@ use mathlib.Core.List.{List, [], _∷_}
 use Prim.Native.Nat.{ℕ, _/_}
 use Rattle.word_blocks.specs.Repeat.{repeated}
 use Rattle.words.specs.Store.{store}
-use Rattle.memory_map.specs.declared.region.Right.the-variants.{Read, Write}
+use Rattle.memory_region.specs.declared.region.Right.the-variants.{Read, Write}
 use Rattle.memory_map.specs.declared.map.Map.{Map}
 use Rattle.outcome.specs.Outcome.{memoryAt, Loaded}
 use Rattle.memory_map.specs.Lookup.{Lookup, lookup, placeOf}

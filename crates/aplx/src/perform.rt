@@ -12,7 +12,7 @@ ghost use Rattle.aplx.specs.Load.Laws.{Performable};
 use aplx_look::command::Command;
 use memory_map::map::Map;
 use memory_map::map::place;
-use memory_map::region::Right;
+use memory_region::region::Right;
 
 // One command whose ranges are permitted.
 fn perform_command(map: Map, memory: &mut [u8], command: Command)

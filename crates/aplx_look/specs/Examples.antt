@@ -5,7 +5,7 @@ use mathlib.Core.List.{List, [], _∷_, _++_}
 use Prim.Native.Nat.{ℕ}
 use lib.ListN.{take, replicate}
 use Rattle.words.specs.Four.{fourBytes}
-use Rattle.memory_map.specs.declared.region.Region.{Region}
+use Rattle.memory_region.specs.declared.region.Region.{Region}
 use Rattle.outcome.specs.Outcome.{Outcome, refused, accepted, end, unknown, run, arm, thumb}
 use Rattle.memory_map.specs.Lookup.{Lookup, lookupIn}
 use Rattle.aplx_look.specs.Look.{destinations, look, outcomeOfLook}

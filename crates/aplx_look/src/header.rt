@@ -14,7 +14,7 @@ ghost use Rattle.aplx_look.specs.Code.{commandIs};
 use crate::command::Command;
 use memory_map::map::Map;
 use memory_map::map::place;
-use memory_map::region::Right;
+use memory_region::region::Right;
 use outcome::answer::Answer;
 use outcome::answer::Refusal;
 use outcome::answer::Stop;

@@ -12,7 +12,7 @@ use crate::command::Command;
 use memory_map::map::Found;
 use memory_map::map::Map;
 use memory_map::map::RunEntry;
-use memory_map::region::Right;
+use memory_region::region::Right;
 use outcome::answer::NOT_ALIGNED;
 use outcome::answer::Refusal;
 use outcome::answer::Stop;

@@ -11,7 +11,7 @@ use Rattle.words.specs.Four.{fourBytes}
 use Rattle.words.specs.Store.{store}
 use Rattle.outcome.specs.Outcome as load
 use Rattle.outcome.specs.Outcome.{arm, thumb, end, unknown, run}
-use Rattle.memory_map.specs.Region.{keepsRules, clear, endsInside}
+use Rattle.memory_region.specs.Region.{keepsRules, clear, endsInside}
 use Rattle.memory_map.specs.Map.{emptyMap, regionsOf, allKeepRules, wellFormed, sound, extended, Addition, add, taken, refused}
 use Rattle.plan.specs.Code as read
 use Rattle.plan.specs.Packed as packed

@@ -11,8 +11,8 @@ use lib.ListN.{length, replicate}
 use Rattle.words.specs.Choice.{if_then_else_}
 use Rattle.words.specs.Bytes.{littleEndian, littleEndianAt}
 use Rattle.words.specs.Four.{fourBytes}
-use Rattle.memory_map.specs.declared.region.Rights.{Rights}
-use Rattle.memory_map.specs.declared.region.Region.{Region}
+use Rattle.memory_region.specs.declared.region.Rights.{Rights}
+use Rattle.memory_region.specs.declared.region.Region.{Region}
 use Rattle.memory_map.specs.declared.map.Map.{Map}
 use Rattle.memory_map.specs.Map.{noRegion, Verdict, taken, refused, Addition}
 

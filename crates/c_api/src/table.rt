@@ -7,8 +7,8 @@ ghost use Rattle.memory_map.specs.Map.{add};
 ghost use Rattle.c_api.specs.Table.{rightsOf, regionOf, regionIn, mapOf, bitOf, rightsNumber, regionBytes, tableOf, verdictNumber, tableAfter};
 use memory_map::map::Map;
 use memory_map::map::Verdict;
-use memory_map::region::Region;
-use memory_map::region::Rights;
+use memory_region::region::Region;
+use memory_region::region::Rights;
 use words::read::le_word_at;
 
 // 1 read, 2 write, 4 run.

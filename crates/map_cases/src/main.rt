@@ -1,8 +1,8 @@
 // The weighed cases of the memory map, run and compared with the stored output.
 use memory_map::map::Map;
-use memory_map::region::Region;
-use memory_map::region::Right;
-use memory_map::region::Rights;
+use memory_region::region::Region;
+use memory_region::region::Right;
+use memory_region::region::Rights;
 
 // A region with every right.
 fn open(base: u32, length: u32, place: u32) -> Region {

@@ -8,12 +8,13 @@ use native.Mathlib.Omega.{arith}
 use lib.ListN.{length, take, drop, length-take, drop-of-length-le}
 use lib.Seq.{drop-cons, getD-take}
 use Rattle.words.specs.Choice.{every}
-use Rattle.memory_map.specs.declared.region.Region.{Region}
-use Rattle.memory_map.specs.declared.region.Right.{Right}
+use Rattle.memory_region.specs.declared.region.Region.{Region}
+use Rattle.memory_region.specs.declared.region.Right.{Right}
 use Rattle.memory_map.specs.declared.map.Map.{Map}
-use Rattle.memory_map.specs.Region.{keepsRules, clear, permits, placeIn}
+use Rattle.memory_region.specs.Region.{keepsRules, clear, permits, placeIn}
 use Rattle.memory_map.specs.Map.{noRegion, regionAt, regionsOf, allKeepRules}
-use Rattle.memory_map.specs.Map.Ascending.{follows, ascending}
+use Rattle.memory_region.specs.Region.Follows.{follows}
+use Rattle.memory_map.specs.Map.Ascending.{ascending}
 use Rattle.memory_map.specs.Lookup.{at, refused, lookupIn}
 
 pub length-regions : (m : Map) → length (m .regions) ≡ 8 → (m .count < 8 → length (regionsOf m) ≡ m .count) × (8 ≤ m .count → length (regionsOf m) ≡ 8)

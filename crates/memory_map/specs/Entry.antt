@@ -4,7 +4,7 @@ use mathlib.Core.Bool.{Bool, false}
 use Prim.Native.Nat.{ℕ, _-_, _%_}
 use lib.Dec.{eqb}
 use Rattle.words.specs.Choice.{if_then_else_}
-use Rattle.memory_map.specs.declared.region.Right.the-variants.{Run}
+use Rattle.memory_region.specs.declared.region.Right.the-variants.{Run}
 use Rattle.memory_map.specs.declared.map.RunEntry as code-entry
 use Rattle.memory_map.specs.declared.map.RunEntry.the-variants.{Legal, Refused}
 use Rattle.outcome.specs.Outcome.{Kind, arm, thumb, kindOf, addressOf}

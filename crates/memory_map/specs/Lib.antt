@@ -1,5 +1,4 @@
 -- The memory map (paper 01, "Memory map").
-pub mod Region
 pub mod Map
 pub mod Lookup
 pub mod Entry

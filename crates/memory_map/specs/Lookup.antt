@@ -5,12 +5,12 @@ use mathlib.Core.Bool.{Bool, true, false}
 use mathlib.Core.List.{List, [], _∷_}
 use Prim.Native.Nat.{ℕ}
 use Rattle.words.specs.Choice.{if_then_else_}
-use Rattle.memory_map.specs.declared.region.Region.{Region}
-use Rattle.memory_map.specs.declared.region.Right.{Right}
+use Rattle.memory_region.specs.declared.region.Region.{Region}
+use Rattle.memory_region.specs.declared.region.Right.{Right}
 use Rattle.memory_map.specs.declared.map.Map.{Map}
 use Rattle.memory_map.specs.declared.map.Found as code-found
 use Rattle.memory_map.specs.declared.map.Found.the-variants.{At, Refused}
-use Rattle.memory_map.specs.Region.{permits, placeIn}
+use Rattle.memory_region.specs.Region.{permits, placeIn}
 use Rattle.memory_map.specs.Map.{regionsOf}
 
 pub data Found : Type 0 where

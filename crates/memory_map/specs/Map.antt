@@ -9,12 +9,12 @@ use Prim.Native.Nat.{ℕ, _+_}
 use lib.Dec.{leb}
 use lib.ListN.{take, set, getD, replicate}
 use Rattle.words.specs.Choice.{if_then_else_, every}
-use Rattle.memory_map.specs.declared.region.Region.{Region}
+use Rattle.memory_region.specs.declared.region.Region.{Region}
 use Rattle.memory_map.specs.declared.map.Map.{Map}
 use Rattle.memory_map.specs.declared.map.Verdict as code-verdict
 use Rattle.memory_map.specs.declared.map.Verdict.the-variants.{Taken, Refused}
 use Rattle.memory_map.specs.declared.map.Addition as code-addition
-use Rattle.memory_map.specs.Region.{keepsRules, clear, endsInside}
+use Rattle.memory_region.specs.Region.{keepsRules, clear, endsInside}
 
 abbrev pub noRegion : Region
 noRegion = record { base = 0; length = 0; place = 0; rights = record { read = false; write = false; run = false } }

@@ -1,6 +1,6 @@
 -- Groups of definitions that computed examples open together: `unfolding NAME` opens all in the line under NAME. Not needed for belief.
 use Rattle.words.specs.Open.{tests}
-use Rattle.memory_map.specs.Region.{keepsRules, clear, endsInside, permits}
+use Rattle.memory_region.specs.Region.{keepsRules, clear, endsInside, permits}
 use Rattle.memory_map.specs.Map.{regionsOf, allKeepRules, wellFormed, sound, extended, add}
 use Rattle.memory_map.specs.Lookup.{lookupIn}
 use Rattle.memory_map.specs.Entry.{legal, runEntry}

@@ -5,7 +5,7 @@ use Prim.Native.Nat.{ℕ, suc}
 use lib.ListN.{length, drop}
 use Rattle.word_blocks.specs.Repeat.{filling}
 use Rattle.words.specs.Store.{store}
-use Rattle.memory_map.specs.declared.region.Right.the-variants.{Write}
+use Rattle.memory_region.specs.declared.region.Right.the-variants.{Write}
 use Rattle.memory_map.specs.Lookup as map
 use Rattle.memory_map.specs.Lookup.{Lookup, Found}
 use Rattle.memory_map.specs.Entry as entry

@@ -8,7 +8,7 @@ use lib.Dec.{ltb, eqb}
 use lib.ListN.{length, take, drop, length-append, length-drop}
 use lib.Seq.{length-take-le, take-all}
 use borrow.Author.Tests.{ltb-false, eqb-true}
-use Rattle.memory_map.specs.declared.region.Right.{Right}
+use Rattle.memory_region.specs.declared.region.Right.{Right}
 use Rattle.memory_map.specs.declared.map.Found as code
 use Rattle.memory_map.specs.Lookup.{Lookup, foundOf}
 use Rattle.words.specs.Choice.Laws.{true-is-false, from-else}

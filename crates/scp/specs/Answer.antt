@@ -7,7 +7,7 @@ use lib.Dec.{ltb, eqb}
 use lib.ListN.{length, take, drop}
 use Rattle.words.specs.Choice.{if_then_else_}
 use Rattle.words.specs.Store.{store}
-use Rattle.memory_map.specs.declared.region.Right.the-variants.{Read, Write}
+use Rattle.memory_region.specs.declared.region.Right.the-variants.{Read, Write}
 use Rattle.memory_map.specs.declared.map.Map.{Map}
 use Rattle.outcome.specs.Outcome as outcome
 use Rattle.outcome.specs.Outcome.{Kind, Outcome, Loaded}

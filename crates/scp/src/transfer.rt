@@ -3,7 +3,7 @@ ghost use mathlib.Core.Path.{_≡_};
 ghost use mathlib.Core.Bool.{true};
 ghost use Prim.Native.Nat.{_+_, _≤_};
 ghost use lib.ListN.{length};
-ghost use Rattle.memory_map.specs.declared.region.Right.the-variants as right;
+ghost use Rattle.memory_region.specs.declared.region.Right.the-variants as right;
 ghost use Rattle.memory_map.specs.Map.{sound};
 ghost use Rattle.memory_map.specs.Lookup.{lookup};
 ghost use Rattle.scp.specs.Packet.{arg1, arg2};
@@ -13,7 +13,7 @@ use crate::answer::Reply;
 use crate::packet::Transfer;
 use memory_map::map::Found;
 use memory_map::map::Map;
-use memory_map::region::Right;
+use memory_region::region::Right;
 use words::read::le_word_at;
 
 // The bytes of a range, where it is permitted.

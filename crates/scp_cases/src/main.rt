@@ -1,8 +1,8 @@
 // The weighed cases of the SCP answerer, run and compared with the stored output: packets in a row over one memory.
 // Memory is 320 bytes of 7: 256 bytes at address 4096 with every right, then 64 bytes at 8192 to read. The output is 272 bytes of 0xee before each.
 use memory_map::map::Map;
-use memory_map::region::Region;
-use memory_map::region::Rights;
+use memory_region::region::Region;
+use memory_region::region::Rights;
 use scp::answer::Identity;
 
 fn two_regions() -> Map {

@@ -5,7 +5,7 @@ use mathlib.Core.List.{List, [], _∷_, _++_}
 use Prim.Native.Nat.{ℕ, zero, suc}
 use lib.ListN.{take, drop, replicate}
 use Rattle.words.specs.Bytes.{littleEndianAt}
-use Rattle.memory_map.specs.declared.region.Region.{Region}
+use Rattle.memory_region.specs.declared.region.Region.{Region}
 use Rattle.outcome.specs.Outcome.{refused, accepted, end, run, arm, thumb}
 use Rattle.memory_map.specs.Lookup.{Lookup, lookupIn}
 use Rattle.srom.specs.Load.{destinations, look, loadWith}

@@ -9,7 +9,7 @@ use lib.ListN.{length, take, drop, getD}
 use Rattle.words.specs.Choice.{if_then_else_}
 use Rattle.words.specs.Bytes.{bigEndianAt}
 use Rattle.word_blocks.specs.Swap.{swapWords}
-use Rattle.memory_map.specs.declared.region.Right.the-variants.{Write}
+use Rattle.memory_region.specs.declared.region.Right.the-variants.{Write}
 use Rattle.outcome.specs.Outcome.{end, run, Ending, stops, refuses}
 use Rattle.memory_map.specs.Lookup as map
 use Rattle.memory_map.specs.Lookup.{Lookup, Found}

@@ -11,7 +11,7 @@ ghost use Rattle.srom.specs.Code.{itemOf};
 use memory_map::map::Found;
 use memory_map::map::Map;
 use memory_map::map::RunEntry;
-use memory_map::region::Right;
+use memory_region::region::Right;
 use outcome::answer::Answer;
 use outcome::answer::CUT_SHORT;
 use outcome::answer::NOT_ALIGNED;

@@ -1,8 +1,8 @@
 // The weighed cases of the serial ROM loader, run and compared with the stored output.
 // Memory is 64 bytes of 7: 32 bytes at 0xf5007fe0 to write, then 32 bytes at 0x7fe0 to run.
 use memory_map::map::Map;
-use memory_map::region::Region;
-use memory_map::region::Rights;
+use memory_region::region::Region;
+use memory_region::region::Rights;
 
 fn two_regions() -> Map {
     let data = Rights {

@@ -10,8 +10,8 @@ use Rattle.words.specs.Range.Laws.{Apart, misses-apart, apart-misses, apart-swa
 use Rattle.word_blocks.specs.Repeat.{repeated}
 use Rattle.word_blocks.specs.Repeat.Laws.{length-repeated}
 use Rattle.words.specs.Store.Laws.{length-store, part-outside}
-use Rattle.memory_map.specs.declared.region.Right.{Right}
-use Rattle.memory_map.specs.declared.region.Right.the-variants.{Read, Write}
+use Rattle.memory_region.specs.declared.region.Right.{Right}
+use Rattle.memory_region.specs.declared.region.Right.the-variants.{Read, Write}
 use Rattle.memory_map.specs.Lookup.{Lookup, at, found, placeOf}
 use Rattle.memory_map.specs.Lookup.Laws.{Lawful, apart, found-at, range-inside}
 use Rattle.aplx_copy.specs.Copy.Laws.{length-copied, copied-outside}

@@ -7,7 +7,7 @@ use native.Mathlib.Nat.{add-zero}
 use native.Mathlib.Numerals.{add-one}
 use native.Mathlib.Omega.{arith}
 use Rattle.words.specs.Choice.{if_then_else_}
-use Rattle.memory_map.specs.declared.region.Right.the-variants.{Read}
+use Rattle.memory_region.specs.declared.region.Right.the-variants.{Read}
 use Rattle.outcome.specs.Outcome.{Stop, Ending, stops, refuses}
 use Rattle.outcome.specs.Destinations.{storedIn}
 use Rattle.outcome.specs.Destinations.Laws.{stored-append}

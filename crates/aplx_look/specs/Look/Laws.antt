@@ -11,7 +11,7 @@ use Rattle.words.specs.Choice.{if_then_else_}
 use Rattle.words.specs.Round.{roundUp}
 use Rattle.words.specs.Round.Laws.{round-multiple}
 use Rattle.words.specs.Bytes.{littleEndianAt}
-use Rattle.memory_map.specs.declared.region.Right.the-variants.{Read, Write}
+use Rattle.memory_region.specs.declared.region.Right.the-variants.{Read, Write}
 use Rattle.memory_map.specs.declared.map.Map.{Map}
 use Rattle.outcome.specs.Outcome.{Stop, Ending, stops, refuses, accepted, outcomeAt}
 use Rattle.outcome.specs.Destinations.{storedIn}

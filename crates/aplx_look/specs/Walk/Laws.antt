@@ -6,7 +6,7 @@ use native.Mathlib.Nat.{zero-add, add-zero}
 use native.Mathlib.Numerals.{add-one}
 use native.Mathlib.Omega.{arith}
 use lib.ListN.{length}
-use Rattle.memory_map.specs.declared.region.Right.the-variants.{Read}
+use Rattle.memory_region.specs.declared.region.Right.the-variants.{Read}
 use Rattle.outcome.specs.Outcome.{Stop, Ending, stops, refuses}
 use Rattle.memory_map.specs.Lookup.{Lookup, Found, at, refused, placeOf}
 use Rattle.aplx_look.specs.Command.{commandAt}

@@ -7,7 +7,7 @@ use native.Mathlib.Omega.{arith}
 use lib.Dec.{eqb}
 use lib.ListN.{length}
 use borrow.Author.Tests.{eq-eqb, ne-eqb, eqb-true, eqb-false}
-use Rattle.memory_map.specs.declared.region.Region.{Region}
+use Rattle.memory_region.specs.declared.region.Region.{Region}
 use Rattle.memory_map.specs.Map.{Addition, taken, refused, add, wellFormed, sound}
 use Rattle.memory_map.specs.Map.Added.{taken-room}
 use Rattle.c_api.specs.Table.{regionsIn, countIn, mapOf, tableOf, tableAfter}

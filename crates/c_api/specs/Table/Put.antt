@@ -10,7 +10,7 @@ use Rattle.words.specs.Bytes.{littleEndian}
 use Rattle.words.specs.Bytes.Laws.{length-littleEndian}
 use Rattle.words.specs.Store.{store, storeIfFits}
 use Rattle.words.specs.Store.Laws.{store-fits, store-behind, store-adjoining, store-whole}
-use Rattle.memory_map.specs.declared.region.Region.{Region}
+use Rattle.memory_region.specs.declared.region.Region.{Region}
 use Rattle.memory_map.specs.declared.map.Map.{Map}
 use Rattle.memory_map.specs.Map.{noRegion}
 use Rattle.c_api.specs.Table.{regionBytes, regionsBytes, tableOf}

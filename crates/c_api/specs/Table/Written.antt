@@ -10,8 +10,8 @@ use Rattle.words.specs.Bytes.{littleEndian, Bytes}
 use Rattle.words.specs.Bytes.Laws.{length-littleEndian, little-at-below, little-at-front}
 use Rattle.words.specs.declared.four.Four.{Four}
 use Rattle.words.specs.Four.Laws.{length-fourBytes, four-at-behind}
-use Rattle.memory_map.specs.declared.region.Rights.{Rights}
-use Rattle.memory_map.specs.declared.region.Region.{Region}
+use Rattle.memory_region.specs.declared.region.Rights.{Rights}
+use Rattle.memory_region.specs.declared.region.Region.{Region}
 use Rattle.memory_map.specs.declared.map.Map.{Map}
 use Rattle.memory_map.specs.Map.{Verdict, taken, refused, add}
 use Rattle.memory_map.specs.Map.Added.{taken-few, refused-same, added-length, added-all}

@@ -9,11 +9,11 @@ use Rattle.words.specs.Choice.{if_then_else_}
 use Rattle.words.specs.Choice.Laws.{true-is-false}
 use Rattle.words.specs.Range.{meets}
 use Rattle.words.specs.Range.Laws.{apart-none, Shared, meets-shared, shared-meets}
-use Rattle.memory_map.specs.declared.region.Region.{Region}
-use Rattle.memory_map.specs.declared.region.Right.{Right}
+use Rattle.memory_region.specs.declared.region.Region.{Region}
+use Rattle.memory_region.specs.declared.region.Right.{Right}
 use Rattle.memory_map.specs.declared.map.Map.{Map}
-use Rattle.memory_map.specs.Region.{permits, placeIn, endsInside}
-use Rattle.memory_map.specs.Region.Laws.{Permits, Clear, permits-facts, facts-permits, ends-facts}
+use Rattle.memory_region.specs.Region.{permits, placeIn, endsInside}
+use Rattle.memory_region.specs.Region.Laws.{Permits, Clear, permits-facts, facts-permits, ends-facts}
 use Rattle.memory_map.specs.Map.{regionsOf, allKeepRules, sound}
 use Rattle.memory_map.specs.Map.Laws.{In, first, later, every-in, rules, in-kept, behind-clear, same-or-clear, sound-facts}
 use Rattle.memory_map.specs.Lookup.{Found, at, refused, Lookup, found, placeOf, lookupIn, lookup}

@@ -9,7 +9,7 @@ use lib.ListN.{length, set, length-set}
 use borrow.Author.Tests.{leb-true}
 use Rattle.words.specs.Choice.{All}
 use Rattle.words.specs.Choice.Laws.{both}
-use Rattle.memory_map.specs.declared.region.Region.{Region}
+use Rattle.memory_region.specs.declared.region.Region.{Region}
 use Rattle.memory_map.specs.declared.map.Map.{Map}
 use Rattle.memory_map.specs.Map.{regionsOf, allKeepRules, wellFormed, extended, Addition, taken, refused, add}
 

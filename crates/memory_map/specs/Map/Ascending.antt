@@ -9,14 +9,11 @@ use borrow.Author.Tests.{leb-true}
 use Rattle.words.specs.Choice.{All, every}
 use Rattle.words.specs.Choice.Laws.{both}
 use Rattle.words.specs.Range.Laws.{before}
-use Rattle.memory_map.specs.declared.region.Region.{Region}
-use Rattle.memory_map.specs.Region.{keepsRules, clear, endsInside}
-use Rattle.memory_map.specs.Region.Laws.{facts-clear}
+use Rattle.memory_region.specs.declared.region.Region.{Region}
+use Rattle.memory_region.specs.Region.{keepsRules, clear, endsInside}
+use Rattle.memory_region.specs.Region.Follows.{follows}
+use Rattle.memory_region.specs.Region.Laws.{facts-clear}
 use Rattle.memory_map.specs.Map.{allKeepRules}
-
--- the region keeps its rules, begins at or behind address a and place p, and ends inside a buffer of n bytes
-unfoldable pub follows : ℕ → ℕ → ℕ → Region → Bool
-follows n a p g = leb a (g .base) && leb p (g .place) && endsInside n g && keepsRules g
 
 -- each region follows the end of the one before it, the first one address a and place p
 unfoldable pub ascending : ℕ → ℕ → ℕ → List Region → Bool

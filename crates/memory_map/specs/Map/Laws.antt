@@ -9,10 +9,10 @@ use borrow.Author.Tests.{leb-true, le-leb}
 use Rattle.words.specs.Choice.{every}
 use Rattle.words.specs.Choice.Laws.{both}
 use Rattle.words.specs.Range.Laws.{apart-swap}
-use Rattle.memory_map.specs.declared.region.Region.{Region}
+use Rattle.memory_region.specs.declared.region.Region.{Region}
 use Rattle.memory_map.specs.declared.map.Map.{Map}
-use Rattle.memory_map.specs.Region.{clear, endsInside}
-use Rattle.memory_map.specs.Region.Laws.{Kept, Clear, keeps-facts, clear-facts}
+use Rattle.memory_region.specs.Region.{clear, endsInside}
+use Rattle.memory_region.specs.Region.Laws.{Kept, Clear, keeps-facts, clear-facts}
 use Rattle.memory_map.specs.Map.{regionsOf, allKeepRules, wellFormed, sound}
 
 -- the region stands in the list

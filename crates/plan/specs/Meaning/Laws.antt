@@ -7,7 +7,7 @@ use native.Mathlib.Nat.{add-zero, add-suc, suc-add}
 use native.Mathlib.Omega.{arith}
 use lib.ListN.{length, drop}
 use Rattle.words.specs.Choice.{All, if_then_else_}
-use Rattle.memory_map.specs.declared.region.Right.the-variants.{Write}
+use Rattle.memory_region.specs.declared.region.Right.the-variants.{Write}
 use Rattle.memory_map.specs.Lookup as map
 use Rattle.memory_map.specs.Lookup.{Lookup, Found, placeOf}
 use Rattle.memory_map.specs.Lookup.Laws.{Lawful}

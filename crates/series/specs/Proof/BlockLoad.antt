@@ -16,7 +16,7 @@ use Rattle.word_blocks.specs.Repeat.{filling}
 use Rattle.word_blocks.specs.Repeat.Laws.{length-filling}
 use Rattle.word_blocks.specs.Swap.{swapWords}
 use Rattle.word_blocks.specs.Swap.Laws.{swap-swap, length-swap}
-use Rattle.memory_map.specs.declared.region.Right.the-variants.{Write}
+use Rattle.memory_region.specs.declared.region.Right.the-variants.{Write}
 use Rattle.memory_map.specs.declared.map.Map.{Map}
 use Rattle.outcome.specs.Outcome.{end, stops, memoryAt}
 use Rattle.outcome.specs.Outcome.Laws.{ending-at}

@@ -9,7 +9,7 @@ use Rattle.words.specs.Choice.{All}
 use Rattle.words.specs.Range.Laws.{apart-part, misses-part}
 use Rattle.word_blocks.specs.Repeat.Laws.{filling-whole}
 use Rattle.words.specs.Store.{store}
-use Rattle.memory_map.specs.declared.region.Right.the-variants.{Read, Write}
+use Rattle.memory_region.specs.declared.region.Right.the-variants.{Read, Write}
 use Rattle.outcome.specs.Outcome.{Ending}
 use Rattle.memory_map.specs.Lookup.{Lookup, at}
 use Rattle.memory_map.specs.Lookup.Laws.{Lawful}

@@ -13,7 +13,7 @@ use Rattle.words.specs.Bytes.{littleEndianAt}
 use Rattle.words.specs.Bytes.Laws.{little-at-part}
 use Rattle.words.specs.Round.Laws.{round-whole}
 use Rattle.words.specs.Store.Laws.{part-of-front}
-use Rattle.memory_map.specs.declared.region.Right.the-variants.{Read, Write}
+use Rattle.memory_region.specs.declared.region.Right.the-variants.{Read, Write}
 use Rattle.outcome.specs.Outcome.{end, stops}
 use Rattle.memory_map.specs.Lookup.{Lookup, Found, at, refused}
 use Rattle.memory_map.specs.Lookup.Laws.{Lawful}

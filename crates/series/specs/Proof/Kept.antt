@@ -9,7 +9,7 @@ use Rattle.words.specs.Range.Laws.{Apart, before}
 use Rattle.word_blocks.specs.Repeat.{filling}
 use Rattle.word_blocks.specs.Repeat.Laws.{length-filling}
 use Rattle.words.specs.Store.Laws.{length-store, part-outside}
-use Rattle.memory_map.specs.declared.region.Right.the-variants.{Write}
+use Rattle.memory_region.specs.declared.region.Right.the-variants.{Write}
 use Rattle.memory_map.specs.Lookup.{Lookup, Found, at, refused}
 use Rattle.memory_map.specs.Lookup.Laws.{Lawful}
 use Rattle.plan.specs.Plan.{Piece, put, fill, run}

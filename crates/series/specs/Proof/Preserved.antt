@@ -9,7 +9,7 @@ use Rattle.words.specs.Choice.{All}
 use Rattle.words.specs.Choice.Laws.{all-map, all-drop}
 use Rattle.words.specs.Range.{meets}
 use Rattle.words.specs.Range.Laws.{Apart, misses-apart, apart-swap}
-use Rattle.memory_map.specs.declared.region.Right.the-variants.{Read, Write}
+use Rattle.memory_region.specs.declared.region.Right.the-variants.{Read, Write}
 use Rattle.memory_map.specs.declared.map.Map.{Map}
 use Rattle.memory_map.specs.Map.{sound}
 use Rattle.memory_map.specs.Lookup.{Lookup, at, lookup}

@@ -10,8 +10,8 @@ use borrow.Author.Tests.{ltb-true}
 use Rattle.words.specs.Choice.{All, every}
 use Rattle.words.specs.Choice.Laws.{every-all, all-map}
 use Rattle.words.specs.Bytes.{Bytes}
-use Rattle.memory_map.specs.declared.region.Region.{Region}
-use Rattle.memory_map.specs.declared.region.Right.the-variants.{Read}
+use Rattle.memory_region.specs.declared.region.Region.{Region}
+use Rattle.memory_region.specs.declared.region.Right.the-variants.{Read}
 use Rattle.memory_map.specs.declared.map.Map.{Map}
 use Rattle.outcome.specs.Outcome.{Loaded}
 use Rattle.memory_map.specs.Map.{sound, emptyMap, add}

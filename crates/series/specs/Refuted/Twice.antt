@@ -9,7 +9,7 @@ use lib.ListN.{length}
 use Rattle.words.specs.Choice.{All, if_then_else_}
 use Rattle.words.specs.Range.{meets}
 use Rattle.words.specs.Open as words-group
-use Rattle.memory_map.specs.declared.region.Right.the-variants.{Read}
+use Rattle.memory_region.specs.declared.region.Right.the-variants.{Read}
 use Rattle.outcome.specs.Outcome.{end, stops, refuses, endingOf, Loaded}
 use Rattle.memory_map.specs.Map.{sound}
 use Rattle.memory_map.specs.Lookup.{Lookup, at, placeOf}

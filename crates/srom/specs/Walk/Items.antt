@@ -6,7 +6,7 @@ use native.Mathlib.Omega.{arith}
 use lib.ListN.{length, getD}
 use borrow.Author.Tests.{le-leb, lt-leb, le-ltb, eq-eqb, ne-eqb}
 use Rattle.words.specs.Bytes.{bigEndianAt}
-use Rattle.memory_map.specs.declared.region.Right.the-variants.{Write}
+use Rattle.memory_region.specs.declared.region.Right.the-variants.{Write}
 use Rattle.outcome.specs.Outcome.{end, stops, refuses}
 use Rattle.memory_map.specs.Lookup.{Lookup}
 use Rattle.memory_map.specs.Entry.{runEntry}

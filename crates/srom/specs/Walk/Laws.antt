@@ -12,7 +12,7 @@ use borrow.Author.Tests.{leb-true, leb-false, ltb-false, eqb-true, eqb-false, no
 use Rattle.words.specs.Choice.Laws.{from-else, from-then}
 use Rattle.words.specs.Bytes.{bigEndianAt}
 use Rattle.word_blocks.specs.Swap.Laws.{length-swap}
-use Rattle.memory_map.specs.declared.region.Right.the-variants.{Write}
+use Rattle.memory_region.specs.declared.region.Right.the-variants.{Write}
 use Rattle.memory_map.specs.Lookup as map
 use Rattle.memory_map.specs.Lookup.{Lookup, Found}
 use Rattle.memory_map.specs.Entry as entry

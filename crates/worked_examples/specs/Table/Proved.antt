@@ -9,7 +9,7 @@ use lib.Seq.{take-all}
 use Rattle.words.specs.Bytes.{fromLittleEndian}
 use Rattle.words.specs.Four.{fourBytes}
 use Rattle.words.specs.Open as words-group
-use Rattle.memory_map.specs.declared.region.Right.the-variants.{Read}
+use Rattle.memory_region.specs.declared.region.Right.the-variants.{Read}
 use Rattle.memory_map.specs.declared.map.Map.{Map}
 use Rattle.outcome.specs.Outcome.{Loaded}
 use Rattle.memory_map.specs.Map.{sound}

@@ -4,7 +4,7 @@ use Prim.Native.Nat.{_-_}
 use native.Mathlib.Omega.{arith}
 use lib.ListN.{length}
 use borrow.Author.Needs.{needs}
-use Rattle.memory_map.specs.declared.region.Right.the-variants.{Read}
+use Rattle.memory_region.specs.declared.region.Right.the-variants.{Read}
 use Rattle.memory_map.specs.Lookup.{lookup, placeOf}
 use Rattle.memory_map.specs.Lookup.Laws.{lawful}
 use Rattle.aplx_look.specs.Code.{commandIs}

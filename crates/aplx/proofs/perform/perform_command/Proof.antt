@@ -6,7 +6,7 @@ use lib.ListN.{length}
 use borrow.Author.Needs.{needs}
 use Rattle.word_blocks.specs.Repeat.Laws.{filling-whole, fill-part}
 use Rattle.words.specs.Store.{store}
-use Rattle.memory_map.specs.declared.region.Right.the-variants.{Read, Write}
+use Rattle.memory_region.specs.declared.region.Right.the-variants.{Read, Write}
 use Rattle.memory_map.specs.Lookup.{lookup, placeOf}
 use Rattle.memory_map.specs.Lookup.Laws.{lawful, range-inside}
 use Rattle.aplx_copy.specs.Copy.Laws.{copied-fits}

@@ -6,7 +6,7 @@ use Prim.Native.Nat.{ℕ, suc, _+_, _-_, _*_, _≤_}
 use native.Mathlib.Nat.{zero-add}
 use native.Mathlib.Omega.{arith}
 use lib.ListN.{length}
-use Rattle.memory_map.specs.declared.region.Right.the-variants.{Read}
+use Rattle.memory_region.specs.declared.region.Right.the-variants.{Read}
 use Rattle.memory_map.specs.declared.map.Map.{Map}
 use Rattle.outcome.specs.Outcome.{stops, stopOf}
 use Rattle.outcome.specs.Destinations.{storedIn}

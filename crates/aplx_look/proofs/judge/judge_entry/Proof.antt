@@ -6,7 +6,7 @@ use lib.ListN.{length}
 use Rattle.aplx_look.specs.Walk.{judge}
 use Rattle.memory_map.specs.Lookup.Laws.{lawful}
 use Rattle.memory_map.specs.Lookup.{at, lookup, foundOf}
-use Rattle.memory_map.specs.declared.region.Right.the-variants.{Read}
+use Rattle.memory_region.specs.declared.region.Right.the-variants.{Read}
 use Rattle.aplx_look.proofs.judge.judge_entry.Statement.{statement}
 use Rattle.aplx_look.proofs.judge.judge_entry.Tie as tie
 

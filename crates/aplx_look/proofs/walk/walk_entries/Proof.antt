@@ -9,7 +9,7 @@ use Rattle.aplx_look.specs.Walk.Laws.{goes-found, walk-goes, walk-halts,
 use Rattle.aplx_look.specs.Walk.{goes, judge, walkFor, walk}
 use Rattle.memory_map.specs.Lookup.Laws.{lawful}
 use Rattle.memory_map.specs.Lookup.{lookup}
-use Rattle.memory_map.specs.declared.region.Right.the-variants.{Read}
+use Rattle.memory_region.specs.declared.region.Right.the-variants.{Read}
 use Rattle.aplx_look.proofs.walk.walk_entries.Statement.{statement}
 use Rattle.aplx_look.proofs.walk.walk_entries.Tie as tie
 

@@ -11,7 +11,7 @@ use Rattle.srom.specs.Walk.Laws.{pads-end-other}
 use Rattle.srom.specs.Walk.{itemAt, blockIn, walk, padsEnd}
 use Rattle.memory_map.specs.Lookup.Laws.{lawful}
 use Rattle.memory_map.specs.Lookup.{lookup}
-use Rattle.memory_map.specs.declared.region.Right.the-variants.{Write}
+use Rattle.memory_region.specs.declared.region.Right.the-variants.{Write}
 use Rattle.words.specs.Store.Laws.{length-store, store-fits}
 use Rattle.srom.proofs.store.store_blocks.Statement.{statement}
 use Rattle.srom.proofs.store.store_blocks.Tie as tie

@@ -9,7 +9,7 @@ use borrow.Author.Needs.{needs}
 use borrow.Author.Tests.{not-true, not-false}
 use Rattle.words.specs.Choice.{every}
 use Rattle.memory_map.proofs.Loops.{every-fails, every-goes, every-end, rules-fail, rules-go, rules-end}
-use Rattle.memory_map.specs.Region.{clear}
+use Rattle.memory_region.specs.Region.{clear}
 use Rattle.memory_map.specs.Map.{regionAt, regionsOf, allKeepRules}
 use Rattle.memory_map.proofs.map.Map.all_clear.Statement.{statement}
 use Rattle.memory_map.proofs.map.Map.all_clear.Tie as tie

@@ -6,7 +6,7 @@ use borrow.Author.Tests.{not-true, not-false}
 use lib.ListN.{drop, length-map}
 use borrow.Author.Needs.{needs}
 use Rattle.memory_map.proofs.Loops.{in-use, none-left, all-read, every-fails, every-goes, every-end}
-use Rattle.memory_map.specs.Region.{endsInside}
+use Rattle.memory_region.specs.Region.{endsInside}
 use Rattle.words.specs.Choice.{every}
 use Rattle.memory_map.specs.Map.{regionsOf}
 use Rattle.memory_map.proofs.map.Map.ends_inside.Statement.{statement}

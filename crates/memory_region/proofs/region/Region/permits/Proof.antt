@@ -1,11 +1,11 @@
--- `memory_map::region::Region::permits` meets its contract: the tests by differences are those of the definition by sums.
+-- `memory_region::region::Region::permits` meets its contract: the tests by differences are those of the definition by sums.
 use borrow.Author.Needs.{needs}
 use native.Mathlib.Omega.{arith}
 use borrow.Author.Tests.{le-leb, lt-leb, lt-ltb, le-ltb}
 use Prim.Native.Nat.{_+_}
-use Rattle.memory_map.specs.Region.{permits}
-use Rattle.memory_map.proofs.region.Region.permits.Statement.{statement}
-use Rattle.memory_map.proofs.region.Region.permits.Tie as tie
+use Rattle.memory_region.specs.Region.{permits}
+use Rattle.memory_region.proofs.region.Region.permits.Statement.{statement}
+use Rattle.memory_region.proofs.region.Region.permits.Tie as tie
 
 returns : tie.Need-returns
 unfolding permits

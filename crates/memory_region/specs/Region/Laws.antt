@@ -5,9 +5,9 @@ use Prim.Native.Nat.{ℕ, _+_, _%_, _≤_, _<_}
 use borrow.Author.Tests.{ltb-true, lt-ltb, leb-true, le-leb, eqb-true, eq-eqb, not-true}
 use Rattle.words.specs.Choice.Laws.{both}
 use Rattle.words.specs.Range.Laws.{Apart, misses-apart, apart-misses}
-use Rattle.memory_map.specs.declared.region.Region.{Region}
-use Rattle.memory_map.specs.declared.region.Right.{Right}
-use Rattle.memory_map.specs.Region.{allows, keepsRules, clear, endsInside, permits}
+use Rattle.memory_region.specs.declared.region.Region.{Region}
+use Rattle.memory_region.specs.declared.region.Right.{Right}
+use Rattle.memory_region.specs.Region.{allows, keepsRules, clear, endsInside, permits}
 
 -- the rules of one region
 pub record Kept (g : Region) : Type 0 where

@@ -1,11 +1,11 @@
--- `memory_map::region::Region::keeps_rules` meets its contract: the tests are those of the definition, in its order.
+-- `memory_region::region::Region::keeps_rules` meets its contract: the tests are those of the definition, in its order.
 use borrow.Author.Needs.{needs}
 use native.Mathlib.Omega.{arith}
 use borrow.Author.Tests.{eq-eqb, ne-eqb, le-leb, lt-leb}
 use Prim.Native.Nat.{_%_}
-use Rattle.memory_map.specs.Region.{keepsRules}
-use Rattle.memory_map.proofs.region.Region.keeps_rules.Statement.{statement}
-use Rattle.memory_map.proofs.region.Region.keeps_rules.Tie as tie
+use Rattle.memory_region.specs.Region.{keepsRules}
+use Rattle.memory_region.proofs.region.Region.keeps_rules.Statement.{statement}
+use Rattle.memory_region.proofs.region.Region.keeps_rules.Tie as tie
 
 returns : tie.Need-returns
 unfolding keepsRules

@@ -1,9 +1,9 @@
--- `memory_map::region::apart` meets its contract: one range ends where the other begins, or before, or one is empty; else they share a number.
+-- `memory_region::region::apart` meets its contract: one range ends where the other begins, or before, or one is empty; else they share a number.
 use borrow.Author.Needs.{needs}
 use native.Mathlib.Omega.{arith}
 use Rattle.words.specs.Range.Laws.{before, behind, apart-misses, meets-empty, misses-by-length}
-use Rattle.memory_map.proofs.region.apart.Statement.{statement}
-use Rattle.memory_map.proofs.region.apart.Tie as tie
+use Rattle.memory_region.proofs.region.apart.Statement.{statement}
+use Rattle.memory_region.proofs.region.apart.Tie as tie
 
 add-if1 : tie.Need-add-if1
 add-if1 c = search needs

@@ -1,11 +1,11 @@
--- `memory_map::region::Region::follows` meets its contract: the four tests of the definition.
+-- `memory_region::region::Region::follows` meets its contract: the four tests of the definition.
 use borrow.Author.Needs.{needs}
 use mathlib.Core.Path.{sym, _∙_}
 use native.Mathlib.Omega.{arith}
 use borrow.Author.Tests.{le-leb, lt-leb, not-true, not-false}
-use Rattle.memory_map.specs.Map.Ascending.{follows}
-use Rattle.memory_map.proofs.region.Region.follows.Statement.{statement}
-use Rattle.memory_map.proofs.region.Region.follows.Tie as tie
+use Rattle.memory_region.specs.Region.Follows.{follows}
+use Rattle.memory_region.proofs.region.Region.follows.Statement.{statement}
+use Rattle.memory_region.proofs.region.Region.follows.Tie as tie
 
 cast-if1 : tie.Need-cast-if1
 cast-if1 c = search needs

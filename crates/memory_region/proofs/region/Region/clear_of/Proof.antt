@@ -1,9 +1,9 @@
--- `memory_map::region::Region::clear_of` meets its contract: what the two calls answer are the two tests of the definition.
+-- `memory_region::region::Region::clear_of` meets its contract: what the two calls answer are the two tests of the definition.
 use borrow.Author.Needs.{needs}
 use mathlib.Core.Path.{sym, _∙_}
-use Rattle.memory_map.specs.Region.{clear}
-use Rattle.memory_map.proofs.region.Region.clear_of.Statement.{statement}
-use Rattle.memory_map.proofs.region.Region.clear_of.Tie as tie
+use Rattle.memory_region.specs.Region.{clear}
+use Rattle.memory_region.proofs.region.Region.clear_of.Statement.{statement}
+use Rattle.memory_region.proofs.region.Region.clear_of.Tie as tie
 
 apart-requires : tie.Need-apart-requires
 apart-requires c κs = search needs

@@ -1,12 +1,13 @@
 -- One region (paper 01, "Memory map"). Sums are whole numbers.
 pub mod Laws
+pub mod Follows
 use mathlib.Core.Bool.{Bool, not, _&&_}
 use Prim.Native.Nat.{ℕ, _+_, _-_, _%_}
 use lib.Dec.{leb, ltb, eqb}
 use Rattle.words.specs.Range.{meets}
-use Rattle.memory_map.specs.declared.region.Region.{Region}
-use Rattle.memory_map.specs.declared.region.Right.{Right}
-use Rattle.memory_map.specs.declared.region.Right.the-variants.{Read, Write, Run}
+use Rattle.memory_region.specs.declared.region.Region.{Region}
+use Rattle.memory_region.specs.declared.region.Right.{Right}
+use Rattle.memory_region.specs.declared.region.Right.the-variants.{Read, Write, Run}
 
 -- "three rights (read, write, run)"
 abbrev pub allows : Region → Right → Bool

@@ -2,8 +2,8 @@
 ghost use mathlib.Core.Path.{_≡_};
 ghost use mathlib.Core.Bool.{not};
 ghost use Rattle.words.specs.Range.{meets};
-ghost use Rattle.memory_map.specs.Map.Ascending.{follows};
-ghost use Rattle.memory_map.specs.Region.{allows, keepsRules, clear, endsInside, permits, placeIn};
+ghost use Rattle.memory_region.specs.Region.Follows.{follows};
+ghost use Rattle.memory_region.specs.Region.{allows, keepsRules, clear, endsInside, permits, placeIn};
 
 pub struct Rights {
     pub read: bool,
@@ -42,7 +42,7 @@ fn apart(a: u32, n: u32, b: u32, k: u32) -> bool
 }
 
 impl Region {
-    pub(crate) fn allows(self, right: Right) -> bool
+    pub fn allows(self, right: Right) -> bool
         ensures { λ r. ⌜ r ≡ allows self right ⌝ }
     {
         let rights = self.rights;
@@ -54,7 +54,7 @@ impl Region {
     }
 
     // Whether it keeps the rules for one region.
-    pub(crate) fn keeps_rules(self) -> bool
+    pub fn keeps_rules(self) -> bool
         ensures { λ r. ⌜ r ≡ keepsRules self ⌝ }
     {
         let base = self.base;
@@ -75,7 +75,7 @@ impl Region {
     }
 
     // Whether it keeps the rules, begins at or behind an address and a place, and ends inside a buffer of so many bytes.
-    pub(crate) fn follows(self, size: usize, address: u64, place: u64) -> bool
+    pub fn follows(self, size: usize, address: u64, place: u64) -> bool
         ensures { λ r. ⌜ r ≡ follows size address place self ⌝ }
     {
         if (self.base as u64) < address {
@@ -91,7 +91,7 @@ impl Region {
     }
 
     // Whether it shares no address and no buffer byte with another.
-    pub(crate) fn clear_of(self, other: Region) -> bool
+    pub fn clear_of(self, other: Region) -> bool
         ensures { λ r. ⌜ r ≡ clear self other ⌝ }
     {
         if apart(self.base, self.length, other.base, other.length) {
@@ -101,14 +101,14 @@ impl Region {
     }
 
     // Whether it ends inside a buffer of so many bytes.
-    pub(crate) fn ends_inside(self, size: usize) -> bool
+    pub fn ends_inside(self, size: usize) -> bool
         ensures { λ r. ⌜ r ≡ endsInside size self ⌝ }
     {
         self.place as usize + self.length as usize <= size
     }
 
     // The buffer place of an address that is not below the base.
-    pub(crate) fn place_of(self, address: u32) -> usize
+    pub fn place_of(self, address: u32) -> usize
         ensures { λ r. ⌜ r ≡ placeIn self address ⌝ }
     {
         if address < self.base {
@@ -118,7 +118,7 @@ impl Region {
     }
 
     // Whether the range is not empty, lies wholly inside, and the right is given.
-    pub(crate) fn permits(self, right: Right, address: u32, length: u64) -> bool
+    pub fn permits(self, right: Right, address: u32, length: u64) -> bool
         ensures { λ r. ⌜ r ≡ permits self right address length ⌝ }
     {
         if length == 0 {

@@ -1,9 +1,9 @@
--- `memory_map::region::Region::ends_inside` meets its contract.
+-- `memory_region::region::Region::ends_inside` meets its contract.
 use mathlib.Core.Path.{refl}
 use borrow.Author.Needs.{needs}
-use Rattle.memory_map.specs.Region.{endsInside}
-use Rattle.memory_map.proofs.region.Region.ends_inside.Statement.{statement}
-use Rattle.memory_map.proofs.region.Region.ends_inside.Tie as tie
+use Rattle.memory_region.specs.Region.{endsInside}
+use Rattle.memory_region.proofs.region.Region.ends_inside.Statement.{statement}
+use Rattle.memory_region.proofs.region.Region.ends_inside.Tie as tie
 
 cast-result : tie.Need-cast-result
 cast-result c = search needs

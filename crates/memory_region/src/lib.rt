@@ -1,0 +1,2 @@
+// One region of memory.
+pub mod region; // addresses, place in the buffer, rights
