@@ -7,7 +7,7 @@ use lib.ListN.{length}
 use Rattle.word_blocks.specs.Swap.{swapWords}
 use Rattle.plan.specs.declared.piece.Piece.the-variants.{Put, Fill}
 use Rattle.plan.specs.Code.Packer.{Writable}
-use Rattle.plan.specs.Code.Laws.{data-length}
+use Rattle.plan.specs.Plan.Laws.{data-length}
 use Rattle.srom_pack.specs.Image.{block, blockOf}
 use borrow.Author.Needs.{needs}
 use Rattle.srom_pack.proofs.block.write_block.Statement.{statement}
