@@ -94,7 +94,7 @@ slice-write-output-2 c =
 same-length : tie.Need-same-length Inv-loop μ-loop
 same-length c =
     let k = c .before in
-    length-set (k .loop .output) (k .loop .at) 0xff ∙ k .loop .inv .1 .1 .0 ∙ length-set (k .before .before .before .args .output .now) 0 0x55
+    length-set (k .loop .output) (k .loop .at) _ ∙ k .loop .inv .1 .1 .0 ∙ length-set (k .before .before .before .args .output .now) 0 0x55
 
 returns : tie.Need-returns Inv-loop μ-loop
 returns c =
