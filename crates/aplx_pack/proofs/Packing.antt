@@ -16,6 +16,7 @@ use Rattle.plan.specs.Code.{putLength, pieceIs}
 use Rattle.plan.specs.Code.Laws.{Found}
 use Rattle.aplx_pack.specs.Image.{entryOf, entries, datas, aplxImage}
 use Rattle.aplx_pack.specs.Image.Laws.{length-entryOf, length-entries, drop-entries, datas-append, datas-split}
+use Rattle.aplx_pack.specs.Code.{withPiece}
 use Rattle.aplx_pack.proofs.Writing.{front-grows, both-grow}
 
 -- the place of the data of piece i; the image's end where i is the count
@@ -90,7 +91,7 @@ module _ (ps : List Piece) where
 
       pub written-more : {out : List ℕ} (i : ℕ) (p : Piece) {place : ℕ} → i < length ps → Written m out i → place ≡ dataAt ps i
           → front ps (i + 1) ≡ front ps i ++ entryOf p (dataAt ps i - 16 * i) → datas (take (i + 1) ps) ≡ datas (take i ps) ++ dataOf p
-          → Written m (store (store out (16 * i) (entryOf p (place - 16 * i))) place (dataOf p)) (i + 1)
+          → Written m (withPiece out p (16 * i) place) (i + 1)
       written-more i p k e a f g =
           let d = datas (take i ps) in
           let entry = entryOf p (dataAt ps i - 16 * i) in

@@ -65,7 +65,7 @@ pub fn put_length(piece: Piece) -> usize
 }
 
 // The length of a fill; 0 for another piece.
-pub(crate) fn fill_length(piece: Piece) -> usize
+pub fn fill_length(piece: Piece) -> usize
     ensures { λ r. ⌜ r ≡ fillLength piece ⌝ }
 {
     match piece {

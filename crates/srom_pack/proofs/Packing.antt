@@ -9,29 +9,19 @@ use lib.Seq.{take-length}
 use Rattle.words.specs.Store.{store}
 use Rattle.words.specs.Store.Laws.{length-store, store-adjoining, sets-store, store-nil}
 use Rattle.plan.specs.declared.piece.Piece as code-piece
-use Rattle.plan.specs.declared.piece.Piece.the-variants.{Put, Fill, Run}
 use Rattle.plan.specs.Plan.{Piece}
 use Rattle.plan.specs.Packed.{planPieces}
 use Rattle.plan.specs.Code.{putLength, fillLength, pieceIs}
 use Rattle.plan.specs.Code.Laws.{Found}
 use Rattle.srom_pack.specs.Image.{blockOf, blocks, sromImage, blockAt}
 use Rattle.srom_pack.specs.Image.Laws.{bytesOf, blocks-append, next-block, end-place}
-use Rattle.srom_pack.specs.Code.{bytesIs}
 
 -- ---- the next block
-both-lengths : (p : code-piece.Piece) → bytesIs p ≡ putLength p + fillLength p
-both-lengths (Put a o n) = omega arith
-both-lengths (Fill a n w) = omega arith
-both-lengths (Run a) = omega arith
-
 module _ {s : List ℕ} {i : ℕ} {p : code-piece.Piece} (f : Found 4 s i p) where
-  pub bytes-most : bytesIs p ≤ 65536
-  bytes-most = omega (arith, both-lengths p, f .sizes .most)
-
-  pub next-place : blockAt (planPieces 4 s) (i + 1) ≡ blockAt (planPieces 4 s) i + (7 + bytesIs p)
+  pub next-place : blockAt (planPieces 4 s) (i + 1) ≡ blockAt (planPieces 4 s) i + (7 + putLength p + fillLength p)
   next-place =
-      let e : bytesIs p ≡ bytesOf (pieceIs s p) = omega (arith, both-lengths p, f .sizes .of-put, f .sizes .of-fill) in
-      rw (add-one i, e) (next-block (planPieces 4 s) i (pieceIs s p) (drop (suc i) (planPieces 4 s)) (f .from))
+      let e : putLength p + fillLength p ≡ bytesOf (pieceIs s p) = omega (arith, f .sizes .of-put, f .sizes .of-fill) in
+      rw (add-one i) (next-block (planPieces 4 s) i (pieceIs s p) (drop (suc i) (planPieces 4 s)) (f .from) ∙ omega arith)
 
   pub blocks-through : blocks (take (i + 1) (planPieces 4 s)) ≡ blocks (take i (planPieces 4 s)) ++ blockOf (pieceIs s p)
   unfolding blocks

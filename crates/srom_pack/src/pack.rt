@@ -21,7 +21,7 @@ fn write_image(plan: &[u8], count: u32, output: &mut [u8])
     while i < count {
         let piece = plan::piece::accepted_at(plan, Target::Srom, i);
         crate::block::write_block(plan, piece, output, at);
-        at += crate::block::size_of(piece);
+        at += 7 + plan::piece::put_length(piece) + plan::piece::fill_length(piece);
         i += 1;
     }
     output[at] = 0xff;

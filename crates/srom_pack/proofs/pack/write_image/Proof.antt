@@ -11,7 +11,7 @@ use Rattle.plan.specs.Code.{pieceIs}
 use Rattle.plan.specs.Code.Laws.{Found, found}
 use Rattle.srom_pack.specs.Image.{blockOf, blockAt, sromImage}
 use Rattle.srom_pack.specs.Image.Laws.{first-block}
-use Rattle.srom_pack.proofs.Packing.{bytes-most, next-place, blocks-through, block-inside, Written, written-none, length-written, written-more, written-all}
+use Rattle.srom_pack.proofs.Packing.{next-place, blocks-through, block-inside, Written, written-none, length-written, written-more, written-all}
 use Rattle.srom_pack.proofs.pack.write_image.Statement.{statement}
 use Rattle.srom_pack.proofs.pack.write_image.Tie as tie
 
@@ -57,14 +57,20 @@ write-block-requires c κs =
     let n = next-piece d in
     (n .writable, omega (arith, next-place n, next-inside d, length-set (start d .args .output .now) 0 0x55))
 
-size-of-requires : tie.Need-size-of-requires Inv-loop μ-loop
-size-of-requires c κs = search needs
+put-length-requires : tie.Need-put-length-requires Inv-loop μ-loop
+put-length-requires c κs = search needs
 
 add-at : tie.Need-add-at Inv-loop μ-loop
-add-at c =
-    let d = c .before .before .before .before .before in
-    let n = next-piece d in
-    omega (arith, c .size-of .ensures (bytes-most n), next-place n, next-inside d)
+add-at c = omega (arith, next-piece (c .before .before .before .before .before) .sizes .most)
+
+fill-length-requires : tie.Need-fill-length-requires Inv-loop μ-loop
+fill-length-requires c κs = search needs
+
+add-at-2 : tie.Need-add-at-2 Inv-loop μ-loop
+add-at-2 c = omega (arith, next-piece (c .before .before .before .before .before .before) .sizes .most)
+
+add-at-3 : tie.Need-add-at-3 Inv-loop μ-loop
+add-at-3 c = let d = c .before .before .before .before .before .before in omega (arith, next-place (next-piece d), next-inside d)
 
 add-i : tie.Need-add-i Inv-loop μ-loop
 add-i c = omega arith
@@ -74,17 +80,17 @@ loop-less c = omega arith
 
 loop-again : tie.Need-loop-again Inv-loop μ-loop
 loop-again c =
-    let d = c .before .before .before .before .before in
+    let d = c .before .before .before .before .before .before in
     let n = next-piece d in
     let x = start d .args in
     let i = k d .loop .i in
-    let w = c .before .before .before .write-block in
+    let w = c .before .before .before .before .write-block in
     let m = set (x .output .now) 0 0x55 in
     let fits : length (sromImage (ps d)) ≤ length m = omega (arith, length-set (x .output .now) 0 0x55) in
     let block = blockOf (pieceIs (x .plan .now) (d .accepted-at .result)) in
     let more : Written (ps d) m (w .last .1 .1 .0) (i + 1) =
-    w .ensures ∙ written-more (ps d) m i block fits (k d .loop .inv .0) (k d .loop .inv .1 .0) (blocks-through n) in
-    (more, (omega (arith, next-place n, c .size-of .ensures (bytes-most n)), (length-written (ps d) m (i + 1) fits more, omega arith)))
+    rw (w .ensures) (written-more (ps d) m i block fits (k d .loop .inv .0) (k d .loop .inv .1 .0) (blocks-through n)) in
+    (more, (omega (arith, next-place n), (length-written (ps d) m (i + 1) fits more, omega arith)))
 
 slice-write-output-2 : tie.Need-slice-write-output-2 Inv-loop μ-loop
 slice-write-output-2 c =
@@ -115,8 +121,11 @@ write-image-spec =
     loop-holds
     accepted-at-requires
     write-block-requires
-    size-of-requires
+    put-length-requires
     add-at
+    fill-length-requires
+    add-at-2
+    add-at-3
     add-i
     loop-less
     loop-again
