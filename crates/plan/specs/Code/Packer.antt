@@ -18,7 +18,7 @@ Writable unit s (Fill a n w) = (n % unit ≡ 0) × (n ≤ 65536)
 Writable unit s (Run a) = Unit {0}
 
 -- an accepted plan s of so many pieces, and an image of it that n bytes hold
-pub record Packs (unit : ℕ) (image : List Piece → List ℕ) (s : List ℕ) (count n : ℕ) : Type 0 where
+pub record ImageFits (unit : ℕ) (image : List Piece → List ℕ) (s : List ℕ) (count n : ℕ) : Type 0 where
   pub accepted : Accepted unit s
   pub counts : count ≡ length (planPieces unit s)
   pub few : count ≤ 64

@@ -13,7 +13,7 @@ use Rattle.plan.specs.Plan.{Piece, Read, refused, pieces, readPlan}
 use Rattle.plan.specs.Packed.{Packed, refuses, packedAs, outputAfter, Outcome, refusal, sized, outcomeOf, planPieces}
 use Rattle.plan.specs.Code as reader
 use Rattle.plan.specs.Code.Laws.{Counted}
-use Rattle.plan.specs.Code.Packer.{Packs}
+use Rattle.plan.specs.Code.Packer.{ImageFits}
 
 -- the plan s, packed as this image over m
 module _ (unit : ℕ) (image : List Piece → List ℕ) (s m : List ℕ) where
@@ -39,7 +39,7 @@ module _ (unit : ℕ) (image : List Piece → List ℕ) (s m : List ℕ) where
     leaves-small h =
         rw (c .accepted) (rw (lt-ltb (length m) (length (image (planPieces unit s))) (omega arith)) (ap (refusal 10) (c .count), refl))
 
-    pub image-fits : size ≤ length m → Packs unit image s n (length m)
+    pub image-fits : size ≤ length m → ImageFits unit image s n (length m)
     image-fits h = record { accepted = c .accepted; counts = c .count; few = c .few; fits = omega arith }
 
     pub leaves-image : {after : List ℕ} → size ≤ length m → after ≡ store m 0 (image (planPieces unit s)) → Leaves (sized size) after
