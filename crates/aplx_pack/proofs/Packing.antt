@@ -2,22 +2,21 @@
 use mathlib.Core.Path.{_≡_, refl, ap, sym, _∙_}
 use mathlib.Core.List.{List, _++_, append-nil}
 use Prim.Native.Nat.{ℕ, suc, _+_, _-_, _*_, _≤_, _<_}
-use native.Mathlib.Numerals.{add-one}
 use native.Mathlib.Omega.{arith}
-use lib.ListN.{length, take, drop, getD, length-append, length-drop, take-append-drop, drop-of-length-le}
-use lib.Seq.{length-take-le, take-add, take-at, take-suc, take-length, drop-cons}
+use lib.ListN.{length, take, drop, length-append, length-drop, take-append-drop, drop-of-length-le}
+use lib.Seq.{length-take-le, take-add, take-at, take-length}
 use Rattle.words.specs.Four.{fourBytes}
 use Rattle.words.specs.Four.Laws.{length-fourBytes}
 use Rattle.words.specs.Store.{store}
 use Rattle.words.specs.Store.Laws.{length-store, store-adjoining, store-nil}
 use Rattle.plan.specs.declared.piece.Piece as code-piece
-use Rattle.plan.specs.Plan.{Piece, run, dataOf}
+use Rattle.plan.specs.Plan.{Piece, dataOf}
 use Rattle.plan.specs.Packed.{planPieces}
 use Rattle.plan.specs.Code.{putLength, pieceIs}
-use Rattle.plan.specs.Code.Packer.{Writable}
-use Rattle.plan.specs.Code.Laws.{lengths, Found}
+use Rattle.plan.specs.Code.Laws.{Found}
 use Rattle.aplx_pack.specs.Image.{entryOf, entries, datas, aplxImage}
 use Rattle.aplx_pack.specs.Image.Laws.{length-entryOf, length-entries, drop-entries, datas-append, datas-split}
+use Rattle.aplx_pack.specs.Code.{withPiece}
 use Rattle.aplx_pack.proofs.Writing.{front-grows, both-grow}
 
 -- the place of the data of piece i; the image's end where i is the count
@@ -29,45 +28,31 @@ abbrev pub front : List Piece → ℕ → List ℕ
 front ps i = take (16 * i) (entries 0 ps)
 
 -- ---- the next piece
-module _ (ps : List Piece) (i : ℕ) (h : i < length ps) where
-  abbrev piece : Piece
-  piece = getD ps i (run 0)
+module _ {s : List ℕ} {i : ℕ} {p : code-piece.Piece} (f : Found 32 s i p) where
+  abbrev ps : List Piece
+  ps = planPieces 32 s
 
-  data-more : datas (take (i + 1) ps) ≡ datas (take i ps) ++ dataOf piece
+  pub put-most : putLength p ≤ 65536
+  put-most = omega (arith, f .sizes .most)
+
+  pub datas-through : datas (take (i + 1) ps) ≡ datas (take i ps) ++ dataOf (pieceIs s p)
   unfolding datas
-  data-more = rw (add-one i, take-suc ps i (run 0) h, datas-append, append-nil)
+  datas-through = rw (f .through, datas-append, append-nil)
 
-  front-more : front ps (i + 1) ≡ front ps i ++ entryOf piece (dataAt ps i - 16 * i)
+  pub next-place : dataAt ps (i + 1) ≡ dataAt ps i + putLength p
+  next-place = omega (arith, f .sizes .of-put, ap length datas-through ∙ length-append (datas (take i ps)) (dataOf (pieceIs s p)))
+
+  pub front-through : front ps (i + 1) ≡ front ps i ++ entryOf (pieceIs s p) (dataAt ps i - 16 * i)
   unfolding entries
-  front-more =
+  front-through =
       let k = length (datas (take i ps)) in
       let qs = drop (suc i) ps in
       let off = 16 * suc (suc (length qs)) + (0 + k) in
       let z : 16 * (i + 1) ≡ 16 * i + 16 = omega arith in
-      let o : off ≡ dataAt ps i - 16 * i = omega (arith, length-drop (suc i) ps) in
-      rw (z, take-add (16 * i) 16 (entries 0 ps), drop-entries ps i 0 (omega arith), drop-cons ps i (run 0) h, ← o)
-      (ap (λ (l : List ℕ). front ps i ++ l) (take-at (entryOf piece off) (entries (0 + k + length (dataOf piece)) qs) 16 (length-entryOf piece off)))
-
--- what writing the piece with index i needs and brings
-pub record Next (s : List ℕ) (i : ℕ) (p : code-piece.Piece) : Type 0 where
-  pub writable : Writable 32 s p
-  pub most : putLength p ≤ 65536
-  pub place : dataAt (planPieces 32 s) (i + 1) ≡ dataAt (planPieces 32 s) i + putLength p
-  pub with-entry : front (planPieces 32 s) (i + 1) ≡ front (planPieces 32 s) i ++ entryOf (pieceIs s p) (dataAt (planPieces 32 s) i - 16 * i)
-  pub with-data : datas (take (i + 1) (planPieces 32 s)) ≡ datas (take i (planPieces 32 s)) ++ dataOf (pieceIs s p)
-
-pub next : (s : List ℕ) (i : ℕ) {p : code-piece.Piece} → i < length (planPieces 32 s) → Found 32 s i p → Next s i p
-next s i {p} h f =
-    let ps = planPieces 32 s in
-    let d = rw (f .same) at (data-more ps i h) in
-    let l = lengths 32 s p (f .writable) in
-    record {
-      writable = f .writable;
-      most = omega arith;
-      place = omega (arith, ap length d ∙ length-append (datas (take i ps)) (dataOf (pieceIs s p)));
-      with-entry = rw (f .same) at (front-more ps i h);
-      with-data = d;
-    }
+      let l : length ps - i ≡ suc (length qs) = sym (length-drop i ps) ∙ ap length (f .from) in
+      let o : off ≡ dataAt ps i - 16 * i = omega arith in
+      rw (z, take-add (16 * i) 16 (entries 0 ps), drop-entries ps i 0 (omega arith), f .from, ← o)
+      (ap (λ (l : List ℕ). front ps i ++ l) (take-at (entryOf (pieceIs s p) off) (entries (0 + k + length (dataOf (pieceIs s p))) qs) 16 (length-entryOf (pieceIs s p) off)))
 
 -- ---- the image
 module _ (ps : List Piece) where
@@ -104,16 +89,16 @@ module _ (ps : List Piece) where
           let f = length-store m 0 (front ps i) (omega (arith, length-front i k, data-inside i)) in
           ap length e ∙ length-store (store m 0 (front ps i)) (16 * (length ps + 1)) (datas (take i ps)) (omega (arith, data-inside i)) ∙ f
 
-      pub written-more : {out : List ℕ} (i : ℕ) (p : Piece) → i < length ps → Written m out i
+      pub written-more : {out : List ℕ} (i : ℕ) (p : Piece) {place : ℕ} → i < length ps → Written m out i → place ≡ dataAt ps i
           → front ps (i + 1) ≡ front ps i ++ entryOf p (dataAt ps i - 16 * i) → datas (take (i + 1) ps) ≡ datas (take i ps) ++ dataOf p
-          → Written m (store (store out (16 * i) (entryOf p (dataAt ps i - 16 * i))) (dataAt ps i) (dataOf p)) (i + 1)
-      written-more i p k e f g =
+          → Written m (withPiece out p (16 * i) place) (i + 1)
+      written-more i p k e a f g =
           let d = datas (take i ps) in
           let entry = entryOf p (dataAt ps i - 16 * i) in
           let l = length-front i (omega arith) in
           let n = length-entryOf p (dataAt ps i - 16 * i) in
           let s = ap length g ∙ length-append d (dataOf p) in
-          rw (e, f, g) (both-grow m (front ps i) d (16 * (length ps + 1)) entry (omega arith) (dataOf p) (16 * i) (dataAt ps i) (sym l) refl (omega (arith, data-inside (i + 1))))
+          rw (a, e, f, g) (both-grow m (front ps i) d (16 * (length ps + 1)) entry (omega arith) (dataOf p) (16 * i) (dataAt ps i) (sym l) refl (omega (arith, data-inside (i + 1))))
 
       -- with the end entry that is the image
       pub written-all : (out : List ℕ) → Written m out (length ps) → store out (16 * length ps) (fourBytes 0xffffffff 0 0 0) ≡ store m 0 (aplxImage ps)

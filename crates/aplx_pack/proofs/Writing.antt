@@ -11,10 +11,11 @@ use Rattle.words.specs.Store.{store, storeIfFits}
 use Rattle.words.specs.Store.Laws.{length-store, store-fits, store-adjoining, store-commutes}
 use Rattle.plan.specs.Plan.{put}
 use Rattle.aplx_pack.specs.Image.{entryOf}
+use Rattle.aplx_pack.specs.Code.{withPiece}
 
 -- a put's entry, and its data behind it
 pub piece-put : (m r s : List ℕ) (p q a : ℕ) (d : List ℕ) → p + 16 ≤ length m → q + length d ≤ length m
-    → r ≡ storeIfFits m p (fourBytes 2 a (q - p) (length d)) → s ≡ storeIfFits r q d → s ≡ store (store m p (entryOf (put a d) (q - p))) q d
+    → r ≡ storeIfFits m p (fourBytes 2 a (q - p) (length d)) → s ≡ storeIfFits r q d → s ≡ withPiece m (put a d) p q
 unfolding entryOf
 piece-put m r s p q a d h k e g =
     let f = e ∙ four-fits m p 2 a (q - p) (length d) h in

@@ -24,16 +24,18 @@ images : Images
 unfolding group.image
 images = record { empty = refl; fill-and-run = refl; put-entry = refl; put-length = refl; put-data = refl; second-put = refl }
 
--- a plan of one put of 32 bytes, whose data stands behind the table
-thirty-two : List ℕ
-thirty-two =
-    1 ∷ 0 ∷ 0 ∷ 0 ∷ 16 ∷ 0 ∷ 0 ∷ 0 ∷ 32 ∷ 0 ∷ 0 ∷ 0 ∷ 32 ∷ 0 ∷ 0 ∷ 0 ∷ 1 ∷ 0 ∷ 0 ∷ 0 ∷ 0 ∷ 1 ∷ 0 ∷ 0 ∷ 32 ∷ 0 ∷ 0 ∷ 0 ∷ 0 ∷ 0 ∷ 0 ∷ 0
-    ∷ replicate 32 7
+-- a plan of one put of n bytes, below 256, whose data stands behind the table
+one-put : ℕ → List ℕ
+one-put n =
+    1 ∷ 0 ∷ 0 ∷ 0 ∷ 16 ∷ 0 ∷ 0 ∷ 0 ∷ 32 ∷ 0 ∷ 0 ∷ 0 ∷ n ∷ 0 ∷ 0 ∷ 0 ∷ 1 ∷ 0 ∷ 0 ∷ 0 ∷ 0 ∷ 1 ∷ 0 ∷ 0 ∷ n ∷ 0 ∷ 0 ∷ 0 ∷ 0 ∷ 0 ∷ 0 ∷ 0
+    ∷ replicate n 7
 
 record Packings : Type 0 where
-  pub as-long : packAplx thirty-two 64 ≡ packs (aplxImage (put 256 (replicate 32 7) ∷ []))
-  pub too-small : packAplx thirty-two 63 ≡ refuses 10 1
+  pub as-long : packAplx (one-put 32) 64 ≡ packs (aplxImage (put 256 (replicate 32 7) ∷ []))
+  pub too-small : packAplx (one-put 32) 63 ≡ refuses 10 1
+  -- no padding
+  pub twenty : packAplx (one-put 20) 64 ≡ refuses 12 0
 
 packings : Packings
-unfolding thirty-two group.image
-packings = record { as-long = refl; too-small = refl }
+unfolding one-put group.image
+packings = record { as-long = refl; too-small = refl; twenty = refl }

@@ -1,35 +1,27 @@
 // The packer.
 ghost use mathlib.Core.Path.{_≡_};
-ghost use Prim.Native.Nat.{_≤_};
 ghost use lib.ListN.{length};
 ghost use Rattle.words.specs.Store.{store};
-ghost use Rattle.plan.specs.Packed.{outputAfter, outcomeOf, planPieces, Accepted};
-ghost use Rattle.plan.specs.Code.Packer.{outcomeIs};
+ghost use Rattle.plan.specs.Packed.{outputAfter, outcomeOf, planPieces};
+ghost use Rattle.plan.specs.Code.Packer.{ImageFits, outcomeIs};
 ghost use Rattle.aplx_pack.specs.Image.{aplxImage, packAplx};
 use outcome::answer::OUTPUT_TOO_SMALL;
 use outcome::answer::Refusal;
 use plan::packed::Answer;
-use plan::piece::Judged;
 use plan::piece::Target;
 
 // The image of a plan with so many pieces, at the output's front.
 fn write_image(plan: &[u8], count: u32, output: &mut [u8])
-    requires { ⌜ Accepted 32 (now plan) × (count ≡ length (planPieces 32 (now plan))) × (count ≤ 64) × (length (aplxImage (planPieces 32 (now plan))) ≤ length (now output)) ⌝ }
+    requires { ⌜ ImageFits 32 aplxImage (now plan) count (length (now output)) ⌝ }
     ensures { λ _. ⌜ now (output .exit) ≡ store (now (output .entry)) 0 (aplxImage (planPieces 32 (now (plan .entry)))) ⌝ }
 {
     let mut place: usize = 16 * (count as usize + 1);
     let mut i: u32 = 0;
     while i < count {
-        match plan::piece::piece_at(plan, Target::Aplx, i) {
-            Judged::Good(piece) => {
-                crate::entry::write_piece(plan, piece, output, 16 * (i as usize), place);
-                place += plan::piece::put_length(piece);
-                i += 1;
-            }
-            Judged::Bad(_) => {
-                return;
-            }
-        }
+        let piece = plan::piece::accepted_at(plan, Target::Aplx, i);
+        crate::entry::write_piece(plan, piece, output, 16 * (i as usize), place);
+        place += plan::piece::put_length(piece);
+        i += 1;
     }
     words::four::put(output, 16 * (count as usize), 0xffffffff, 0, 0, 0);
 }

@@ -5,8 +5,8 @@ use Prim.Native.Nat.{ℕ, _+_, _-_, _≤_, _<_}
 use native.Mathlib.Nat.{zero-add, add-zero, add-assoc}
 use native.Mathlib.Omega.{arith}
 use lib.ListN.{length}
-use Rattle.plan.specs.Plan.{Piece, dataOf, filledBy, putBytes, fillBytes, good, bad, pieceAt, Read, refused, pieces, before, readPieces}
-use Rattle.plan.specs.Plan.Laws.{read-good, read-bad, read-end}
+use Rattle.plan.specs.Plan.{Piece, dataOf, filledBy, putBytes, fillBytes, Row, pieceIn, good, bad, pieceAt, Read, refused, pieces, before, readPieces}
+use Rattle.plan.specs.Plan.Steps.{read-good, read-bad, read-end}
 use Rattle.plan.specs.Code.{Outcome, refuses, reads, outcomeOf}
 
 -- the outcome of what was read, after n good pieces of p put bytes and f fill bytes
@@ -30,9 +30,9 @@ pub counts-start : (unit : ℕ) (s : List ℕ) (k : ℕ) → counted 0 0 0 (read
 counts-start unit s k = let z : k - 0 ≡ k = omega arith in rw z (counted-none (readPieces unit s k 0))
 
 module _ (unit : ℕ) (s : List ℕ) (k i p f : ℕ) where
-  pub counts-good : {q : Piece} → i < k → pieceAt unit s i ≡ good q
-      → counted i p f (readPieces unit s (k - i) i) ≡ counted (i + 1) (p + length (dataOf q)) (f + filledBy q) (readPieces unit s (k - (i + 1)) (i + 1))
-  counts-good {q} h e = rw (read-good unit s k i h e) (counted-more i p f q (readPieces unit s (k - (i + 1)) (i + 1)))
+  pub counts-good : {row : Row} → i < k → pieceAt unit s i ≡ good row → let q = pieceIn s row in
+      counted i p f (readPieces unit s (k - i) i) ≡ counted (i + 1) (p + length (dataOf q)) (f + filledBy q) (readPieces unit s (k - (i + 1)) (i + 1))
+  counts-good {row} h e = rw (read-good unit s k i h e) (counted-more i p f (pieceIn s row) (readPieces unit s (k - (i + 1)) (i + 1)))
 
   pub counts-bad : {n : ℕ} → i < k → pieceAt unit s i ≡ bad n → counted i p f (readPieces unit s (k - i) i) ≡ refuses n i
   counts-bad h e = rw (read-bad unit s k i h e)

@@ -1,9 +1,10 @@
 -- What the cases of the code's enums say, in the terms of the definitions.
 pub mod Packer
+pub mod Injective
 pub mod Laws
 use mathlib.Core.List.{List}
-use Prim.Native.Nat.{ℕ, _+_, _≤_}
-use lib.ListN.{length, take, drop}
+use Prim.Native.Nat.{ℕ}
+use lib.ListN.{length}
 use Rattle.plan.specs.declared.piece.Target.{Target}
 use Rattle.plan.specs.declared.piece.Target.the-variants.{Aplx, Srom, Any}
 use Rattle.plan.specs.declared.piece.Piece as code-piece
@@ -12,7 +13,7 @@ use Rattle.plan.specs.declared.piece.Judged as code-judged
 use Rattle.plan.specs.declared.piece.Judged.the-variants as judged
 use Rattle.plan.specs.declared.read.Answer as code-answer
 use Rattle.plan.specs.declared.read.Answer.the-variants as answer
-use Rattle.plan.specs.Plan.{putBytes, fillBytes, dataAt, dataLength, Piece, put, fill, run, Judged, good, bad, Read, refused, pieces}
+use Rattle.plan.specs.Plan.{Piece, putBytes, fillBytes, Row, putRow, fillRow, runRow, pieceIn, Judged, good, bad, Read, refused, pieces}
 
 -- the unit that a medium's lengths are multiples of
 abbrev pub unitOf : Target → ℕ
@@ -31,22 +32,24 @@ fillLength (Put a o n) = 0
 fillLength (Fill a n w) = n
 fillLength (Run a) = 0
 
--- of the plan s; a put's data stands from offset o on
+-- the row of the piece table
+abbrev pub rowIs : code-piece.Piece → Row
+rowIs (Put a o n) = putRow a o n
+rowIs (Fill a n w) = fillRow a n w
+rowIs (Run a) = runRow a
+
+abbrev pub judgedIs : code-judged.Judged → Judged
+judgedIs (judged.Good p) = good (rowIs p)
+judgedIs (judged.Bad n) = bad n
+
+-- the row of a piece of a plan that was read; a run at 0 where the tests refuse it
+abbrev pub rowOf : Judged → Row
+rowOf (good row) = row
+rowOf (bad n) = runRow 0
+
+-- the piece of the plan s
 abbrev pub pieceIs : List ℕ → code-piece.Piece → Piece
-pieceIs s (Put a o n) = put a (take n (drop o s))
-pieceIs s (Fill a n w) = fill a n w
-pieceIs s (Run a) = run a
-
-abbrev pub judgedIs : List ℕ → code-judged.Judged → Judged
-judgedIs s (judged.Good p) = good (pieceIs s p)
-judgedIs s (judged.Bad n) = bad n
-
--- a put's data lies within the plan's data
-abbrev pub WithinData : List ℕ → code-judged.Judged → Type 0
-WithinData s (judged.Good (Put a o n)) = o + n ≤ dataAt s + dataLength s
-WithinData s (judged.Good (Fill a n w)) = Unit {0}
-WithinData s (judged.Good (Run a)) = Unit {0}
-WithinData s (judged.Bad n) = Unit {0}
+pieceIs s p = pieceIn s (rowIs p)
 
 -- what the reader answers: a refusal, or the number of pieces and the sums of their lengths
 pub data Outcome : Type 0 where

@@ -9,7 +9,7 @@ use Rattle.memory_map.specs.Lookup.{Lookup, lookupIn}
 use Rattle.plan.specs.declared.packed.Answer.the-variants as code-answer
 use Rattle.plan.specs.Code as reader
 use Rattle.plan.specs.Code.Packer.{outcomeIs}
-use Rattle.plan.specs.Plan.{Piece, put, fill, run, putBytes, fillBytes, refused, pieces, readPlan}
+use Rattle.plan.specs.Plan.{Piece, put, fill, run, putBytes, fillBytes, putRow, good, pieceAt, refused, pieces, readPlan}
 use Rattle.plan.specs.Packed.{refuses, packs, packedAs, refusal, sized}
 use Rattle.plan.specs.Meaning.{ends, runs, denies, meaning}
 use Rattle.plan.specs.Open as group
@@ -74,6 +74,15 @@ plans = record {
   in-order = refl;
   second = refl;
 }
+
+record Rows : Type 0 where
+  pub located : pieceAt 4 (plan 1 (1 ∷ 4096 ∷ 4 ∷ 2 ∷ []) (9 ∷ 9 ∷ 1 ∷ 2 ∷ 3 ∷ 4 ∷ [])) 0 ≡ good (putRow 4096 34 4)
+  -- the same where the plan ends before the data, which the test of the header refuses
+  pub past-the-plan : pieceAt 4 (take 32 (plan 1 (1 ∷ 4096 ∷ 4 ∷ 2 ∷ []) (9 ∷ 9 ∷ 1 ∷ 2 ∷ 3 ∷ 4 ∷ []))) 0 ≡ good (putRow 4096 34 4)
+
+rows : Rows
+unfolding words plan group.reader
+rows = record { located = refl; past-the-plan = refl }
 
 -- two puts of 3 bytes in all, two fills of 12, and a run
 sizes : List Piece

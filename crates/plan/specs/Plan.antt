@@ -1,4 +1,5 @@
 -- The format of a plan and its reader (paper 01, "Plans"). Offsets and sums are whole numbers.
+pub mod Steps
 pub mod Laws
 pub mod Unit
 pub mod Sums
@@ -51,9 +52,21 @@ dataAt s = littleEndianAt 4 s 8
 abbrev pub dataLength : List ℕ → ℕ
 dataLength s = littleEndianAt 4 s 12
 
+-- a row of the piece table that passed the tests of one piece; the offset is the plan's
+pub data Row : Type 0 where
+  putRow : ℕ → ℕ → ℕ → Row  -- address, offset of the data, length
+  fillRow : ℕ → ℕ → ℕ → Row  -- address, length, word
+  runRow : ℕ → Row  -- address
+
+-- the piece of a row of the plan s
+abbrev pub pieceIn : List ℕ → Row → Piece
+pieceIn s (putRow a o n) = put a (take n (drop o s))
+pieceIn s (fillRow a n w) = fill a n w
+pieceIn s (runRow a) = run a
+
 -- what the tests of one piece give
 pub data Judged : Type 0 where
-  good : Piece → Judged
+  good : Row → Judged
   bad : ℕ → Judged  -- number
 
 -- "Run: length or last word not zero, 11; bits 1:0 = 2, 9."
@@ -61,7 +74,7 @@ unfoldable pub judgeRun : ℕ → ℕ → ℕ → Judged
 judgeRun a n w =
     if not (eqb n 0 && eqb w 0) then bad 11
     else if eqb (a % 4) 2 then bad 9
-    else good (run a)
+    else good (runRow a)
 
 -- "Put and fill: 5; length over 65,536, 11; address not a multiple of 4, 3" .. "length not a multiple of 32 (APLX) or 4 (SROM), 12";
 -- a unit of 1 tests no length
@@ -71,14 +84,14 @@ judgeFill unit a n w =
     else if ltb 65536 n then bad 11
     else if not (eqb (a % 4) 0) then bad 3
     else if not (eqb (n % unit) 0) then bad 12
-    else good (fill a n w)
+    else good (fillRow a n w)
 
 -- the same, with "put data past the data length, 2"; the data offset o is "counted from the data"
 unfoldable pub judgeData : ℕ → List ℕ → ℕ → ℕ → ℕ → Judged
 judgeData unit s a n o =
     if ltb (dataLength s) (o + n) then bad 2
     else if not (eqb (n % unit) 0) then bad 12
-    else good (put a (take n (drop (dataAt s + o) s)))
+    else good (putRow a (dataAt s + o) n)
 
 unfoldable pub judgePut : ℕ → List ℕ → ℕ → ℕ → ℕ → Judged
 judgePut unit s a n o =
@@ -95,12 +108,12 @@ judgeKind unit s k a n w =
     else if eqb k 3 then judgeRun a n w
     else bad 11
 
--- the piece whose four words stand at offset p
+-- the row whose four words stand at offset p
 unfoldable pub judgeAt : ℕ → List ℕ → ℕ → Judged
 judgeAt unit s p =
     judgeKind unit s (littleEndianAt 4 s p) (littleEndianAt 4 s (p + 4)) (littleEndianAt 4 s (p + 8)) (littleEndianAt 4 s (p + 12))
 
--- the piece with index i
+-- the row of the piece with index i
 unfoldable pub pieceAt : ℕ → List ℕ → ℕ → Judged
 pieceAt unit s i = judgeAt unit s (tableOf s + 16 * i)
 
@@ -113,14 +126,15 @@ abbrev pub before : Piece → Read → Read
 before p (refused n i) = refused n i
 before p (pieces ps) = pieces (p ∷ ps)
 
-abbrev pub next : Judged → ℕ → Read → Read
-next (good p) i r = before p r
-next (bad n) i r = refused n i
+-- the row with index i, and what follows it in the plan s
+abbrev pub next : List ℕ → Judged → ℕ → Read → Read
+next s (good row) i r = before (pieceIn s row) r
+next s (bad n) i r = refused n i
 
 -- k pieces, the first of which has index i
 unfoldable pub readPieces : ℕ → List ℕ → ℕ → ℕ → Read
 readPieces unit s zero i = pieces []
-readPieces unit s (suc k) i = next (pieceAt unit s i) i (readPieces unit s k (suc i))
+readPieces unit s (suc k) i = next s (pieceAt unit s i) i (readPieces unit s k (suc i))
 
 -- "Order: under 16 bytes, 2; count over 64, 11; table, then data, ending past the plan (offset + length, even if empty), 2. Per piece"
 unfoldable pub readPlan : ℕ → List ℕ → Read

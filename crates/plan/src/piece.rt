@@ -1,10 +1,9 @@
 // One piece of a plan.
 ghost use mathlib.Core.Path.{_≡_};
-ghost use mathlib.Core.List.{List};
-ghost use Prim.Native.Nat.{ℕ, _%_};
+ghost use Prim.Native.Nat.{_%_};
 ghost use lib.Dec.{eqb};
 ghost use Rattle.plan.specs.Plan.{judgeRun, judgeFill, judgeData, judgePut, judgeKind, pieceAt};
-ghost use Rattle.plan.specs.Code.{unitOf, putLength, fillLength, judgedIs, WithinData};
+ghost use Rattle.plan.specs.Code.{unitOf, putLength, fillLength, rowIs, judgedIs, rowOf};
 use memory_map::refusal::RUN_NOT_LEGAL;
 use outcome::answer::CUT_SHORT;
 use outcome::answer::NOT_ALIGNED;
@@ -66,7 +65,7 @@ pub fn put_length(piece: Piece) -> usize
 }
 
 // The length of a fill; 0 for another piece.
-pub(crate) fn fill_length(piece: Piece) -> usize
+pub fn fill_length(piece: Piece) -> usize
     ensures { λ r. ⌜ r ≡ fillLength piece ⌝ }
 {
     match piece {
@@ -96,8 +95,7 @@ fn is_whole(target: Target, length: u32) -> bool
 }
 
 fn judge_run(address: u32, length: u32, last: u32) -> Judged
-    ensures { λ r. ⌜ ((s : List ℕ) → judgedIs s r ≡ judgeRun address length last) ⌝ }
-    ensures { λ r. ⌜ ((s : List ℕ) → WithinData s r) ⌝ }
+    ensures { λ r. ⌜ judgedIs r ≡ judgeRun address length last ⌝ }
 {
     if length != 0 {
         return Judged::Bad(PLAN_MALFORMED);
@@ -112,8 +110,7 @@ fn judge_run(address: u32, length: u32, last: u32) -> Judged
 }
 
 fn judge_fill(target: Target, address: u32, length: u32, word: u32) -> Judged
-    ensures { λ r. ⌜ ((s : List ℕ) → judgedIs s r ≡ judgeFill (unitOf target) address length word) ⌝ }
-    ensures { λ r. ⌜ ((s : List ℕ) → WithinData s r) ⌝ }
+    ensures { λ r. ⌜ judgedIs r ≡ judgeFill (unitOf target) address length word ⌝ }
 {
     if length == 0 {
         return Judged::Bad(ZERO_LENGTH);
@@ -136,8 +133,7 @@ fn judge_fill(target: Target, address: u32, length: u32, word: u32) -> Judged
 
 // The data of a put whose address and length are in order.
 fn judge_data(plan: &[u8], target: Target, address: u32, length: u32, offset: u32) -> Judged
-    ensures { λ r. ⌜ judgedIs (now (plan .entry)) r ≡ judgeData (unitOf target) (now (plan .entry)) address length offset ⌝ }
-    ensures { λ r. ⌜ WithinData (now (plan .entry)) r ⌝ }
+    ensures { λ r. ⌜ judgedIs r ≡ judgeData (unitOf target) (now (plan .entry)) address length offset ⌝ }
 {
     let start = offset as u64;
     let size = le_word_at(plan, 12) as u64;
@@ -156,8 +152,7 @@ fn judge_data(plan: &[u8], target: Target, address: u32, length: u32, offset: u3
 }
 
 fn judge_put(plan: &[u8], target: Target, address: u32, length: u32, offset: u32) -> Judged
-    ensures { λ r. ⌜ judgedIs (now (plan .entry)) r ≡ judgePut (unitOf target) (now (plan .entry)) address length offset ⌝ }
-    ensures { λ r. ⌜ WithinData (now (plan .entry)) r ⌝ }
+    ensures { λ r. ⌜ judgedIs r ≡ judgePut (unitOf target) (now (plan .entry)) address length offset ⌝ }
 {
     if length == 0 {
         return Judged::Bad(ZERO_LENGTH);
@@ -179,8 +174,7 @@ fn judge_kind(
     length: u32,
     last: u32,
 ) -> Judged
-    ensures { λ r. ⌜ judgedIs (now (plan .entry)) r ≡ judgeKind (unitOf target) (now (plan .entry)) kind address length last ⌝ }
-    ensures { λ r. ⌜ WithinData (now (plan .entry)) r ⌝ }
+    ensures { λ r. ⌜ judgedIs r ≡ judgeKind (unitOf target) (now (plan .entry)) kind address length last ⌝ }
 {
     if kind == 1 {
         return judge_put(plan, target, address, length, last);
@@ -196,10 +190,19 @@ fn judge_kind(
 
 // The piece with an index, by the plan's own table.
 pub fn piece_at(plan: &[u8], target: Target, index: u32) -> Judged
-    ensures { λ r. ⌜ judgedIs (now (plan .entry)) r ≡ pieceAt (unitOf target) (now (plan .entry)) index ⌝ }
-    ensures { λ r. ⌜ WithinData (now (plan .entry)) r ⌝ }
+    ensures { λ r. ⌜ judgedIs r ≡ pieceAt (unitOf target) (now (plan .entry)) index ⌝ }
 {
     let at = le_word_at(plan, 4) as usize + 16 * (index as usize);
     let w = words::four::read(plan, at);
     judge_kind(plan, target, w.first, w.second, w.third, w.fourth)
+}
+
+// The piece with an index of a plan that was read; a run at 0 where its tests refuse it.
+pub fn accepted_at(plan: &[u8], target: Target, index: u32) -> Piece
+    ensures { λ r. ⌜ rowIs r ≡ rowOf (pieceAt (unitOf target) (now (plan .entry)) index) ⌝ }
+{
+    match piece_at(plan, target, index) {
+        Judged::Good(piece) => piece,
+        Judged::Bad(_) => Piece::Run { address: 0 },
+    }
 }

@@ -4,51 +4,28 @@ use mathlib.Core.List.{List, [], _∷_, _++_, append-nil}
 use Prim.Native.Nat.{ℕ, suc, _+_, _≤_, _<_}
 use native.Mathlib.Numerals.{add-one}
 use native.Mathlib.Omega.{arith}
-use lib.ListN.{length, take, drop, getD, set, length-append, take-append-drop}
-use lib.Seq.{take-suc, take-length, drop-cons}
+use lib.ListN.{length, take, drop, set, length-append, take-append-drop}
+use lib.Seq.{take-length}
 use Rattle.words.specs.Store.{store}
 use Rattle.words.specs.Store.Laws.{length-store, store-adjoining, sets-store, store-nil}
 use Rattle.plan.specs.declared.piece.Piece as code-piece
-use Rattle.plan.specs.declared.piece.Piece.the-variants.{Put, Fill, Run}
-use Rattle.plan.specs.Plan.{Piece, run}
+use Rattle.plan.specs.Plan.{Piece}
 use Rattle.plan.specs.Packed.{planPieces}
 use Rattle.plan.specs.Code.{putLength, fillLength, pieceIs}
-use Rattle.plan.specs.Code.Packer.{Writable}
-use Rattle.plan.specs.Code.Laws.{lengths, Found}
+use Rattle.plan.specs.Code.Laws.{Found}
 use Rattle.srom_pack.specs.Image.{blockOf, blocks, sromImage, blockAt}
 use Rattle.srom_pack.specs.Image.Laws.{bytesOf, blocks-append, next-block, end-place}
-use Rattle.srom_pack.specs.Code.{bytesIs}
 
 -- ---- the next block
-both-lengths : (p : code-piece.Piece) → bytesIs p ≡ putLength p + fillLength p
-both-lengths (Put a o n) = omega arith
-both-lengths (Fill a n w) = omega arith
-both-lengths (Run a) = omega arith
+module _ {s : List ℕ} {i : ℕ} {p : code-piece.Piece} (f : Found 4 s i p) where
+  pub next-place : blockAt (planPieces 4 s) (i + 1) ≡ blockAt (planPieces 4 s) i + (7 + putLength p + fillLength p)
+  next-place =
+      let e : putLength p + fillLength p ≡ bytesOf (pieceIs s p) = omega (arith, f .sizes .of-put, f .sizes .of-fill) in
+      rw (add-one i) (next-block (planPieces 4 s) i (pieceIs s p) (drop (suc i) (planPieces 4 s)) (f .from) ∙ omega arith)
 
-blocks-more : (ps : List Piece) (p : Piece) → blocks (ps ++ p ∷ []) ≡ blocks ps ++ blockOf p
-unfolding blocks
-blocks-more ps p = rw (blocks-append, append-nil)
-
--- what writing the piece with index i needs and brings
-pub record Next (s : List ℕ) (i : ℕ) (p : code-piece.Piece) : Type 0 where
-  pub writable : Writable 4 s p
-  pub most : bytesIs p ≤ 65536
-  pub place : blockAt (planPieces 4 s) (i + 1) ≡ blockAt (planPieces 4 s) i + (7 + bytesIs p)
-  pub block : blocks (take (i + 1) (planPieces 4 s)) ≡ blocks (take i (planPieces 4 s)) ++ blockOf (pieceIs s p)
-
-pub next : (s : List ℕ) (i : ℕ) {p : code-piece.Piece} → i < length (planPieces 4 s) → Found 4 s i p → Next s i p
-next s i {p} h f =
-    let ps = planPieces 4 s in
-    let piece = getD ps i (run 0) in
-    let l = lengths 4 s p (f .writable) in
-    let b = both-lengths p in
-    let e : bytesIs p ≡ bytesOf (pieceIs s p) = omega arith in
-    record {
-      writable = f .writable;
-      most = omega arith;
-      place = rw (add-one i, e, ← f .same) (next-block ps i piece (drop (suc i) ps) (drop-cons ps i (run 0) h));
-      block = rw (add-one i, take-suc ps i (run 0) h, ← f .same) (blocks-more (take i ps) piece);
-    }
+  pub blocks-through : blocks (take (i + 1) (planPieces 4 s)) ≡ blocks (take i (planPieces 4 s)) ++ blockOf (pieceIs s p)
+  unfolding blocks
+  blocks-through = rw (f .through, blocks-append, append-nil)
 
 -- ---- the image
 module _ (ps : List Piece) where
@@ -75,11 +52,11 @@ module _ (ps : List Piece) where
     unfolding blockAt
     length-written i h e = ap length e ∙ length-store m 1 (blocks (take i ps)) (omega (arith, block-inside i))
 
-    pub written-more : {out : List ℕ} (i : ℕ) (d : List ℕ) → length (sromImage ps) ≤ length m → Written m out i
-        → blocks (take (i + 1) ps) ≡ blocks (take i ps) ++ d → Written m (store out (blockAt ps i) d) (i + 1)
+    pub written-more : {out : List ℕ} (i : ℕ) (d : List ℕ) {at : ℕ} → length (sromImage ps) ≤ length m → Written m out i → at ≡ blockAt ps i
+        → blocks (take (i + 1) ps) ≡ blocks (take i ps) ++ d → Written m (store out at d) (i + 1)
     unfolding blockAt
-    written-more i d h e f = let z : blockAt ps i ≡ 1 + length (blocks (take i ps)) = omega arith in
-        rw (e, f, z) (store-adjoining m 1 (blocks (take i ps)) (omega (arith, block-inside i)) d)
+    written-more i d h e a f = let z : blockAt ps i ≡ 1 + length (blocks (take i ps)) = omega arith in
+        rw (a, e, f, z) (store-adjoining m 1 (blocks (take i ps)) (omega (arith, block-inside i)) d)
 
   -- with the pad before the blocks and the end behind them, that is the image
   pub written-all : (m out : List ℕ) → length (sromImage ps) ≤ length m → Written (set m 0 0x55) out (length ps)

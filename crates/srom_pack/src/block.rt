@@ -6,10 +6,9 @@ ghost use lib.ListN.{length};
 ghost use Rattle.words.specs.Bytes.{littleEndian, bigEndian};
 ghost use Rattle.word_blocks.specs.Repeat.{filling};
 ghost use Rattle.words.specs.Store.{store};
-ghost use Rattle.plan.specs.Code.{pieceIs};
+ghost use Rattle.plan.specs.Code.{putLength, fillLength, pieceIs};
 ghost use Rattle.plan.specs.Code.Packer.{Writable};
 ghost use Rattle.srom_pack.specs.Image.{block, blockOf};
-ghost use Rattle.srom_pack.specs.Code.{bytesIs};
 use plan::piece::Piece;
 
 // The start byte, the length in words and the address.
@@ -52,28 +51,9 @@ fn data_block(output: &mut [u8], at: usize, address: u32, source: &[u8])
     word_blocks::swap::put(output, at + 7, source);
 }
 
-// The bytes of a piece's block.
-pub(crate) fn size_of(piece: Piece) -> usize
-    ensures { λ r. ⌜ (bytesIs piece ≤ 65536 → r ≡ 7 + bytesIs piece) ⌝ }
-{
-    match piece {
-        Piece::Put {
-            address: _,
-            from: _,
-            length,
-        } => std::num::wrapping_add_usize(7, length),
-        Piece::Fill {
-            address: _,
-            length,
-            word: _,
-        } => std::num::wrapping_add_usize(7, length),
-        Piece::Run { address: _ } => 7,
-    }
-}
-
 // The block of a piece of the plan.
 pub(crate) fn write_block(plan: &[u8], piece: Piece, output: &mut [u8], at: usize)
-    requires { ⌜ Writable 4 (now plan) piece × (at + (7 + bytesIs piece) ≤ length (now output)) ⌝ }
+    requires { ⌜ Writable 4 (now plan) piece × (at + (7 + putLength piece + fillLength piece) ≤ length (now output)) ⌝ }
     ensures { λ _. ⌜ now (output .exit) ≡ store (now (output .entry)) at (blockOf (pieceIs (now (plan .entry)) piece)) ⌝ }
 {
     match piece {

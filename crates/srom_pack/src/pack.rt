@@ -1,36 +1,28 @@
 // The packer.
 ghost use mathlib.Core.Path.{_≡_};
-ghost use Prim.Native.Nat.{_≤_};
 ghost use lib.ListN.{length};
 ghost use Rattle.words.specs.Store.{store};
-ghost use Rattle.plan.specs.Packed.{outputAfter, outcomeOf, planPieces, Accepted};
-ghost use Rattle.plan.specs.Code.Packer.{outcomeIs};
+ghost use Rattle.plan.specs.Packed.{outputAfter, outcomeOf, planPieces};
+ghost use Rattle.plan.specs.Code.Packer.{ImageFits, outcomeIs};
 ghost use Rattle.srom_pack.specs.Image.{sromImage, packSrom};
 use outcome::answer::OUTPUT_TOO_SMALL;
 use outcome::answer::Refusal;
 use plan::packed::Answer;
-use plan::piece::Judged;
 use plan::piece::Target;
 
 // The image of a plan with so many pieces, at the output's front.
 fn write_image(plan: &[u8], count: u32, output: &mut [u8])
-    requires { ⌜ Accepted 4 (now plan) × (count ≡ length (planPieces 4 (now plan))) × (count ≤ 64) × (length (sromImage (planPieces 4 (now plan))) ≤ length (now output)) ⌝ }
+    requires { ⌜ ImageFits 4 sromImage (now plan) count (length (now output)) ⌝ }
     ensures { λ _. ⌜ now (output .exit) ≡ store (now (output .entry)) 0 (sromImage (planPieces 4 (now (plan .entry)))) ⌝ }
 {
     output[0] = 0x55;
     let mut at: usize = 1;
     let mut i: u32 = 0;
     while i < count {
-        match plan::piece::piece_at(plan, Target::Srom, i) {
-            Judged::Good(piece) => {
-                crate::block::write_block(plan, piece, output, at);
-                at += crate::block::size_of(piece);
-                i += 1;
-            }
-            Judged::Bad(_) => {
-                return;
-            }
-        }
+        let piece = plan::piece::accepted_at(plan, Target::Srom, i);
+        crate::block::write_block(plan, piece, output, at);
+        at += 7 + plan::piece::put_length(piece) + plan::piece::fill_length(piece);
+        i += 1;
     }
     output[at] = 0xff;
 }

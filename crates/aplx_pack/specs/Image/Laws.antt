@@ -20,7 +20,9 @@ length-entryOf (run a) off = rw length-fourBytes
 pub length-entries : (k : ℕ) (ps : List Piece) → length (entries k ps) ≡ 16 * suc (length ps)
 unfolding entries
 length-entries k [] = length-fourBytes 0xffffffff 0 0 0
-length-entries k (p ∷ ps) = rw (length-append, length-entryOf, length-entries (k + length (dataOf p)) ps) (omega arith)
+length-entries k (p ∷ ps) =
+    let rest : (j : ℕ) → length (entries j ps) ≡ 16 * suc (length ps) = λ j. length-entries j ps in
+    rw (length-append, length-entryOf, rest) (omega arith)
 
 pub length-datas : (ps : List Piece) → length (datas ps) ≡ putBytes ps
 unfolding datas putBytes

@@ -1,4 +1,5 @@
--- What a packer's code says of pieces and answers, in the terms of the definitions.
+-- What a packer's code asks and answers, in the terms of the definitions.
+pub mod Laws
 use mathlib.Core.Path.{_≡_}
 use mathlib.Core.List.{List}
 use Prim.Native.Nat.{ℕ, _+_, _%_, _≤_}
@@ -7,13 +8,21 @@ use Rattle.plan.specs.declared.piece.Piece as code-piece
 use Rattle.plan.specs.declared.piece.Piece.the-variants.{Put, Fill, Run}
 use Rattle.plan.specs.declared.packed.Answer as code-answer
 use Rattle.plan.specs.declared.packed.Answer.the-variants as answer
-use Rattle.plan.specs.Packed.{Outcome, refusal, sized}
+use Rattle.plan.specs.Plan.{Piece}
+use Rattle.plan.specs.Packed.{planPieces, Accepted, Outcome, refusal, sized}
 
 -- a piece of the plan s that can be written to a medium with this unit
 abbrev pub Writable : ℕ → List ℕ → code-piece.Piece → Type 0
 Writable unit s (Put a o n) = (o + n ≤ length s) × (n % unit ≡ 0) × (n ≤ 65536)
 Writable unit s (Fill a n w) = (n % unit ≡ 0) × (n ≤ 65536)
 Writable unit s (Run a) = Unit {0}
+
+-- an accepted plan s of so many pieces, and an image of it that n bytes hold
+pub record ImageFits (unit : ℕ) (image : List Piece → List ℕ) (s : List ℕ) (count n : ℕ) : Type 0 where
+  pub accepted : Accepted unit s
+  pub counts : count ≡ length (planPieces unit s)
+  pub few : count ≤ 64
+  pub fits : length (image (planPieces unit s)) ≤ n
 
 abbrev pub outcomeIs : code-answer.Answer → Outcome
 outcomeIs (answer.Refused r) = refusal (r .number) (r .place)

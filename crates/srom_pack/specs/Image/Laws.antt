@@ -24,7 +24,7 @@ bytesOf p = length (dataOf p) + filledBy p
 
 pub length-blockOf : (p : Piece) → length (blockOf p) ≡ 7 + bytesOf p
 unfolding blockOf
-length-blockOf (put a d) = rw (length-block a d) (omega arith)
+length-blockOf (put a d) = rw length-block (omega arith)
 length-blockOf (fill a n w) = rw (length-block a (filling n w), length-filling n w) (omega arith)
 length-blockOf (run a) = length-block a []
 

@@ -7,7 +7,7 @@ use Rattle.words.specs.Four.Laws.{four-fits}
 use Rattle.words.specs.Store.Laws.{store-nil}
 use Rattle.plan.specs.declared.piece.Piece.the-variants.{Put, Fill}
 use Rattle.plan.specs.Code.Packer.{Writable}
-use Rattle.plan.specs.Code.Laws.{data-length}
+use Rattle.plan.specs.Plan.Laws.{data-length}
 use Rattle.aplx_pack.specs.Image.{entryOf}
 use Rattle.aplx_pack.proofs.Writing.{piece-put}
 use borrow.Author.Needs.{needs}

@@ -20,10 +20,7 @@ add-if1 c = search needs
 
 returns : tie.Need-returns
 unfolding judgeData
-returns c = (
-  let x = c .before .before .before .args in simp (lt-ltb (dataLength (now (x .plan))) (x .offset + x .length) (omega arith)),
-  tt,
-)
+returns c = let x = c .before .before .before .args in simp (lt-ltb (dataLength (now (x .plan))) (x .offset + x .length) (omega arith))
 
 is-whole-requires : tie.Need-is-whole-requires
 is-whole-requires c κs = search needs
@@ -39,17 +36,11 @@ add-from c = search needs
 
 returns-2 : tie.Need-returns-2
 unfolding judgeData
-returns-2 c = (
-  let x = c .before .before .before .before .before .before .args in simp (le-ltb (dataLength (now (x .plan))) (x .offset + x .length) (omega arith), sym (c .before .before .is-whole .ensures) ∙ c .before .if2 .taken, c .le-word-at2 .ensures),
-  omega arith,
-)
+returns-2 c = let x = c .before .before .before .before .before .before .args in simp (le-ltb (dataLength (now (x .plan))) (x .offset + x .length) (omega arith), sym (c .before .before .is-whole .ensures) ∙ c .before .if2 .taken, c .le-word-at2 .ensures)
 
 returns-3 : tie.Need-returns-3
 unfolding judgeData
-returns-3 c = (
-  let x = c .before .before .before .before .before .args in simp (le-ltb (dataLength (now (x .plan))) (x .offset + x .length) (omega arith), sym (c .before .is-whole .ensures) ∙ c .if2 .left),
-  tt,
-)
+returns-3 c = let x = c .before .before .before .before .before .args in simp (le-ltb (dataLength (now (x .plan))) (x .offset + x .length) (omega arith), sym (c .before .is-whole .ensures) ∙ c .if2 .left)
 
 pub judge-data-spec : {M : Type 1} → statement M
 judge-data-spec =

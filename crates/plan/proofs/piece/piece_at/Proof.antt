@@ -24,10 +24,7 @@ judge-kind-requires c κs = search needs
 
 returns : tie.Need-returns
 unfolding pieceAt judgeAt
-returns c = (
-  simp (c .judge-kind .ensures .0, c .before .read .ensures, c .before .before .le-word-at .ensures),
-  c .judge-kind .ensures .1,
-)
+returns c = simp (c .judge-kind .ensures, c .before .read .ensures, c .before .before .le-word-at .ensures)
 
 pub piece-at-spec : {M : Type 1} → statement M
 piece-at-spec =

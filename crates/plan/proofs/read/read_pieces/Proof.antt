@@ -1,14 +1,13 @@
 -- `plan::read::read_pieces` meets its contract: the loop's invariant: the good pieces before `i` and their sums, with what reading the rest gives, have the outcome of the whole.
 use mathlib.Core.Path.{_≡_, ap, sym, _∙_}
-use Prim.Native.Nat.{_+_, _-_, _*_, _≤_}
+use mathlib.Core.List.{List}
+use Prim.Native.Nat.{ℕ, _+_, _-_, _*_, _≤_}
 use native.Mathlib.Omega.{arith}
 use borrow.Author.Needs.{needs}
-use Rattle.words.specs.Choice.Laws.{all-elements}
-use Rattle.words.specs.Bytes.{Bytes}
 use lib.ListN.{length}
 use Rattle.plan.specs.Plan.{dataOf, filledBy, good, pieceAt, readPieces}
-use Rattle.plan.specs.Code.{unitOf, pieceIs, judgedIs, outcomeOf}
-use Rattle.plan.specs.Code.Laws.{can-write, Lengths, lengths}
+use Rattle.plan.specs.Code.{unitOf, rowIs, judgedIs, pieceIs, outcomeOf}
+use Rattle.plan.specs.Code.Laws.{Lengths, read-lengths}
 use Rattle.plan.proofs.Reading.{counted, counts-start, counts-good, counts-bad, counts-end}
 use Rattle.plan.proofs.read.read_pieces.Statement.{statement}
 use Rattle.plan.proofs.read.read_pieces.Tie as tie
@@ -35,17 +34,17 @@ module _ (c : tie.After-known-told Inv-loop μ-loop) where
   abbrev k : tie.At-loop Inv-loop μ-loop
   k = c .before .before .before .before .before
 
-  is-good : pieceAt (unitOf (k .before .before .args .target)) (k .before .before .args .plan .now) (k .loop .i) ≡ good (pieceIs (k .before .before .args .plan .now) (c .before .piece .given .0 .0))
-  is-good = sym (c .before .before .before .piece-at .ensures .0) ∙ ap (judgedIs (k .before .before .args .plan .now)) (c .before .piece .given .1)
+  abbrev plan : List ℕ
+  plan = k .before .before .args .plan .now
 
-  piece-lengths : Lengths (k .before .before .args .plan .now) (c .before .piece .given .0 .0)
-  piece-lengths =
-      let s = k .before .before .args .plan .now in
-      let unit = unitOf (k .before .before .args .target) in
-      let r = c .before .before .before .piece-at in
-      let p = c .before .piece .given .0 .0 in
-      let bytes : Bytes s = all-elements _ 0 s (λ i. omega (arith, k .before .shared-slice-known .given i)) in
-      lengths unit s p (can-write unit s bytes (k .before .before .pre .1) (k .loop .i) (r .result) (r .ensures .0) (r .ensures .1) (c .before .piece .given .1))
+  abbrev unit : ℕ
+  unit = unitOf (k .before .before .args .target)
+
+  is-good : pieceAt unit plan (k .loop .i) ≡ good (rowIs (c .before .piece .given .0 .0))
+  is-good = sym (c .before .before .before .piece-at .ensures) ∙ ap judgedIs (c .before .piece .given .1)
+
+  piece-lengths : Lengths plan (c .before .piece .given .0 .0)
+  piece-lengths = read-lengths unit plan (k .before .shared-slice-known .given) (k .before .before .pre .1) (k .loop .i) _ is-good
 
 put-length-requires : tie.Need-put-length-requires Inv-loop μ-loop
 put-length-requires c κs = search needs
@@ -86,7 +85,7 @@ cast-t12 c = omega arith
 returns : tie.Need-returns Inv-loop μ-loop
 returns c = let s = c .before .before .before .before .before in
     let x = s .before .before .args in
-    let e = sym (c .before .before .before .piece-at .ensures .0) ∙ ap (judgedIs (x .plan .now)) (c .before .number .given .1) in
+    let e = sym (c .before .before .before .piece-at .ensures) ∙ ap judgedIs (c .before .number .given .1) in
     sym (counts-bad (unitOf (x .target)) (x .plan .now) (x .count) (s .loop .i) (s .loop .puts) (s .loop .fills) (omega arith) e) ∙ s .loop .inv .0
 
 returns-2 : tie.Need-returns-2 Inv-loop μ-loop

@@ -7,7 +7,7 @@ use lib.ListN.{length}
 use Rattle.word_blocks.specs.Swap.{swapWords}
 use Rattle.plan.specs.declared.piece.Piece.the-variants.{Put, Fill}
 use Rattle.plan.specs.Code.Packer.{Writable}
-use Rattle.plan.specs.Code.Laws.{data-length}
+use Rattle.plan.specs.Plan.Laws.{data-length}
 use Rattle.srom_pack.specs.Image.{block, blockOf}
 use borrow.Author.Needs.{needs}
 use Rattle.srom_pack.proofs.block.write_block.Statement.{statement}
@@ -17,12 +17,12 @@ use Rattle.srom_pack.proofs.block.write_block.Tie as tie
 put-fits : (c : tie.After-known-told) → let x = c .before .before .before .before .before .args in
     let g = c .before .piece .given .0 in
     Writable 4 (x .plan .now) (Put (g .0) (g .1 .0) (g .1 .1 .0)) × (x .at + (7 + g .1 .1 .0) ≤ length (x .output .now))
-put-fits c = rw (c .before .piece .given .1) at (c .before .before .before .before .before .pre)
+put-fits c = let h = rw (c .before .piece .given .1) at (c .before .before .before .before .before .pre) in (h .0, omega arith)
 
 fill-fits : (c : tie.After-known-told2) → let x = c .before .before .before .before .before .args in
     let g = c .before .piece2 .given .0 in
     Writable 4 (x .plan .now) (Fill (g .0) (g .1 .0) (g .1 .1 .0)) × (x .at + (7 + g .1 .0) ≤ length (x .output .now))
-fill-fits c = rw (c .before .piece2 .given .1) at (c .before .before .before .before .before .pre)
+fill-fits c = let h = rw (c .before .piece2 .given .1) at (c .before .before .before .before .before .pre) in (h .0, omega arith)
 
 enum-known-piece : tie.Need-enum-known-piece
 enum-known-piece c = search needs

@@ -1,17 +1,13 @@
 -- `srom_pack::pack::pack` meets its contract: a refused plan, an output shorter than the image, or the image.
-use mathlib.Core.Path.{_≡_, ap, sym, _∙_}
+use mathlib.Core.Path.{_≡_}
 use mathlib.Core.List.{List}
 use Prim.Native.Nat.{ℕ, _+_, _*_}
 use native.Mathlib.Omega.{arith}
 use borrow.Author.Needs.{needs}
 use lib.ListN.{length}
-use Rattle.words.specs.Choice.Laws.{all-elements}
-use Rattle.words.specs.Bytes.{Bytes}
-use Rattle.plan.specs.Plan.{readPlan}
 use Rattle.plan.specs.Packed.{planPieces}
-use Rattle.plan.specs.Packed.Laws.{leaves-refused, leaves-small, leaves-image}
-use Rattle.plan.specs.Code as reader
 use Rattle.plan.specs.Code.Laws.{Counted, counted}
+use Rattle.plan.specs.Code.Packer.Laws.{leaves-refused, leaves-small, image-fits, leaves-image}
 use Rattle.srom_pack.specs.Image.{sromImage, packSrom}
 use Rattle.srom_pack.specs.Image.Laws.{length-sromImage}
 use Rattle.srom_pack.proofs.pack.pack.Statement.{statement}
@@ -28,24 +24,18 @@ enum-known-count c = search needs
 
 -- the plan was accepted
 module _ (c : tie.After-known-told2) where
+  abbrev start : tie.Start
+  start = c .before .before .before .before .before .before
+
   abbrev plan : List ℕ
-  plan = c .before .before .before .before .before .before .args .plan .now
+  plan = start .args .plan .now
 
-  abbrev count : ℕ
-  count = c .before .count .given .0 .0
+  read-plan : let g = c .before .count .given .0 in
+      Counted 4 plan (g .0) (g .1 .0) (g .1 .1 .0)
+  read-plan = counted 4 plan (c .before .before .before .before .before .shared-slice-known .given) (c .before .before .before .read .ensures) (c .before .count .given .1)
 
-  abbrev puts : ℕ
-  puts = c .before .count .given .0 .1 .0
-
-  abbrev fills : ℕ
-  fills = c .before .count .given .0 .1 .1 .0
-
-  read-plan : Counted 4 plan count puts fills
-  read-plan =
-      let bytes : Bytes plan = all-elements _ 0 plan (λ i. omega (arith, c .before .before .before .before .before .shared-slice-known .given i)) in
-      counted 4 plan bytes (sym (c .before .before .before .read .ensures) ∙ ap reader.outcomeIs (c .before .count .given .1))
-
-  size-is : 2 + 7 * count + puts + fills ≡ length (sromImage (planPieces 4 plan))
+  size-is : let g = c .before .count .given .0 in
+      2 + 7 * g .0 + g .1 .0 + g .1 .1 .0 ≡ length (sromImage (planPieces 4 plan))
   size-is = let r = read-plan in omega (arith, length-sromImage (planPieces 4 plan))
 
 mul-size : tie.Need-mul-size
@@ -62,24 +52,21 @@ add-size-3 c = omega (arith, read-plan c)
 
 returns : tie.Need-returns
 unfolding packSrom
-returns c =
-    let x = c .before .before .before .before .before .before .before .args in
-    let r = read-plan (c .before) in
-    leaves-small sromImage (readPlan 4 (x .plan .now)) (x .output .now) (r .accepted) (size-is (c .before)) (r .count) (omega arith)
+returns c = let d = c .before in leaves-small 4 sromImage (plan d) (start d .args .output .now) (read-plan d) (size-is d) (omega arith)
 
 cast-write-image : tie.Need-cast-write-image
 cast-write-image c = omega (arith, read-plan (c .before))
 
 write-image-requires : tie.Need-write-image-requires
 write-image-requires c κs =
-    let r = read-plan (c .before .before) in
-    (r .accepted, r .count, r .few, omega (arith, size-is (c .before .before)))
+    let d = c .before .before in
+    image-fits 4 sromImage (plan d) (start d .args .output .now) (read-plan d) (size-is d) (omega arith)
 
 returns-2 : tie.Need-returns-2
 unfolding packSrom
 returns-2 c =
     let x = c .before .before .before .before .before .before .args in
-    leaves-refused sromImage (readPlan 4 (x .plan .now)) (x .output .now) (sym (c .before .before .before .read .ensures) ∙ ap reader.outcomeIs (c .before .refusal .given .1))
+    leaves-refused 4 sromImage (x .plan .now) (x .output .now) (c .before .before .before .read .ensures) (c .before .refusal .given .1)
 
 same-length : tie.Need-same-length
 same-length c = search needs
@@ -88,8 +75,7 @@ returns-3 : tie.Need-returns-3
 unfolding packSrom
 returns-3 c =
     let d = c .before .before .before .before .before in
-    let x = d .before .before .before .before .before .before .args in
-    leaves-image sromImage (readPlan 4 (x .plan .now)) (x .output .now) (read-plan d .accepted) (size-is d) (omega arith) (c .before .before .write-image .ensures)
+    leaves-image 4 sromImage (plan d) (start d .args .output .now) (read-plan d) (size-is d) (omega arith) (c .before .before .write-image .ensures)
 
 pub pack-spec : {M : Type 1} → statement M
 pack-spec =
