@@ -3,7 +3,7 @@ ghost use mathlib.Core.Path.{_≡_};
 ghost use mathlib.Core.List.{_∷_, _++_};
 ghost use Prim.Native.Nat.{_+_, _%_, _≤_};
 ghost use lib.ListN.{length};
-ghost use Rattle.words.specs.Bytes.{littleEndian, bigEndian};
+ghost use Rattle.words.specs.Bytes.{bigEndian};
 ghost use Rattle.word_blocks.specs.Repeat.{filling};
 ghost use Rattle.words.specs.Store.{store};
 ghost use Rattle.plan.specs.Code.{putLength, fillLength, pieceIs};
@@ -21,13 +21,6 @@ fn put_header(output: &mut [u8], at: usize, words: u16, address: u32)
     words::put::be_word(output, at + 3, address);
 }
 
-// The word whose bytes are the other way round.
-fn turned(word: u32) -> u32
-    ensures { λ r. ⌜ littleEndian 4 r ≡ bigEndian 4 word ⌝ }
-{
-    word % 256 * 16777216 + word / 256 % 256 * 65536 + word / 65536 % 256 * 256 + word / 16777216
-}
-
 // A block of a word repeated over so many bytes.
 fn fill_block(output: &mut [u8], at: usize, address: u32, size: usize, word: u32)
     requires { ⌜ (at + (7 + size) ≤ length (now output)) × (size % 4 ≡ 0) × (size ≤ 65536) ⌝ }
@@ -35,7 +28,7 @@ fn fill_block(output: &mut [u8], at: usize, address: u32, size: usize, word: u32
 {
     let count = size / 4;
     put_header(output, at, count as u16, address);
-    let little = turned(word);
+    let little = words::turned::word(word);
     let start = at + 7;
     let end = start + size;
     word_blocks::fill::fill(&mut output[start..end], little);

@@ -13,14 +13,14 @@ fn byte_at(s: &[u8], at: usize) -> u8
 }
 
 // The number of two bytes, lowest first.
-fn number_of_two(a: u8, b: u8) -> u16
+pub(crate) fn number_of_two(a: u8, b: u8) -> u16
     ensures { λ r. ⌜ r ≡ fromLittleEndian (a ∷ b ∷ []) ⌝ }
 {
     a as u16 + 256 * (b as u16)
 }
 
 // The number of four bytes, lowest first.
-fn number_of_four(a: u8, b: u8, c: u8, d: u8) -> u32
+pub(crate) fn number_of_four(a: u8, b: u8, c: u8, d: u8) -> u32
     ensures { λ r. ⌜ r ≡ fromLittleEndian (a ∷ b ∷ c ∷ d ∷ []) ⌝ }
 {
     a as u32 + 256 * (b as u32) + 65536 * (c as u32) + 16777216 * (d as u32)

@@ -71,6 +71,12 @@ unfolding bigEndian fromBigEndian
 bigEndian-from bs h =
     rw (← length-reverse bs, littleEndian-from (reverse bs) (all-reverse _ bs h)) (reverse-reverse bs)
 
+-- the number whose bytes are those of another the other way round
+pub littleEndian-turned : (k n : ℕ) → littleEndian k (fromLittleEndian (bigEndian k n)) ≡ bigEndian k n
+unfolding bigEndian
+littleEndian-turned k n =
+    rw (length-bigEndian k n) at (littleEndian-from (bigEndian k n) (all-reverse _ (littleEndian k n) (bytes-of k n)))
+
 -- ---- the bytes of a halfword and of a word
 pub halfword-bytes : (n : ℕ) → littleEndian 2 n ≡ n % 256 ∷ n / 256 % 256 ∷ []
 unfolding littleEndian
@@ -204,10 +210,11 @@ pub record Examples : Type 0 where
   pub little : littleEndian 4 0x01020304 ≡ 4 ∷ 3 ∷ 2 ∷ 1 ∷ []
   pub big : bigEndian 4 0x01020304 ≡ 1 ∷ 2 ∷ 3 ∷ 4 ∷ []
   pub half : bigEndian 2 0x0102 ≡ 1 ∷ 2 ∷ []
+  pub turned : fromLittleEndian (bigEndian 4 0x01020304) ≡ 0x04030201
   pub little-at : littleEndianAt 4 (9 ∷ 4 ∷ 3 ∷ 2 ∷ 1 ∷ []) 1 ≡ 0x01020304
   pub big-at : bigEndianAt 4 (9 ∷ 1 ∷ 2 ∷ 3 ∷ 4 ∷ []) 1 ≡ 0x01020304
   pub cut : bigEndianAt 2 (9 ∷ 1 ∷ []) 1 ≡ 0x0100
 
 pub examples : Examples
 unfolding littleEndian bigEndian fromLittleEndian fromBigEndian firstBytes littleEndianAt bigEndianAt
-examples = record { little = refl; big = refl; half = refl; little-at = refl; big-at = refl; cut = refl }
+examples = record { little = refl; big = refl; half = refl; turned = refl; little-at = refl; big-at = refl; cut = refl }

@@ -2,6 +2,8 @@
 use mathlib.Core.Path.{ap, sym, _∙_}
 use Prim.Native.Nat.{_+_}
 use native.Mathlib.Omega.{arith}
+use Rattle.words.specs.Bytes.{littleEndian}
+use Rattle.words.specs.Bytes.Laws.{littleEndian-turned}
 use Rattle.word_blocks.specs.Repeat.{filling}
 use Rattle.word_blocks.specs.Repeat.Laws.{length-filling, fill-part}
 use Rattle.words.specs.Store.{store}
@@ -19,8 +21,8 @@ cast-put-header c = search needs
 put-header-requires : tie.Need-put-header-requires
 put-header-requires c κs = search needs
 
-turned-requires : tie.Need-turned-requires
-turned-requires c κs = search needs
+word-requires : tie.Need-word-requires
+word-requires c κs = search needs
 
 add-start : tie.Need-add-start
 add-start c = search needs
@@ -45,7 +47,7 @@ same-length c = search needs
 
 returns : tie.Need-returns
 returns c =
-    let turn = c .before .before .before .before .turned in
+    let turn = c .before .before .before .before .word in
     let front = c .before .before .before .before .before .before .before in
     let start = front .before .before .before in
     let x = start .args in
@@ -54,7 +56,7 @@ returns c =
     let body = c .before .before .fill in
     let d = filling (x .size) (x .word) in
     let n = length-filling (x .size) (x .word) in
-    let e = sym (swap-filling (x .word) (turn .result) (turn .ensures) (x .size) (start .pre .1)) in
+    let e = sym (swap-filling (x .word) (turn .result) (ap (littleEndian 4) (turn .ensures) ∙ littleEndian-turned 4 (x .word)) (x .size) (start .pre .1)) in
     let f = fill-part m p (x .size) (turn .result) (body .last .0) (omega arith) (body .ensures) ∙ ap (store m p) e in
     let g = sym (store-fits m p (swapWords d) (omega (arith, length-swap d))) in
     block-put (x .output .now) (x .at) (x .address) m _ d (omega arith) (rw n (front .put-header .ensures)) (f ∙ g)
@@ -65,7 +67,7 @@ fill-block-spec =
     (tie.spec
     cast-put-header
     put-header-requires
-    turned-requires
+    word-requires
     add-start
     add-end
     sub-fill

@@ -1,24 +1,60 @@
--- `words::put::le_half` meets its contract: its two bytes are those of the halfword.
+-- `words::put::le_half` meets its contract: the two stores at the place are one store of the number's two bytes, where they fit.
 use borrow.Author.Needs.{needs}
-use Rattle.words.specs.Bytes.Laws.{halfword-bytes}
+use borrow.Author.Tests.{leb-true, leb-false}
+use mathlib.Core.Path.{sym, _∙_}
+use Prim.Native.Nat.{_+_, _≤_}
+use native.Mathlib.Omega.{arith}
+use lib.ListN.{length, length-set}
+use Rattle.words.specs.Bytes.{littleEndian}
+use Rattle.words.specs.Bytes.Laws.{length-littleEndian, halfword-bytes}
+use Rattle.words.specs.Store.Laws.{two-sets, store-unfit}
 use Rattle.words.proofs.put.le_half.Statement.{statement}
 use Rattle.words.proofs.put.le_half.Tie as tie
 
-cast-two-bytes : tie.Need-cast-two-bytes
-cast-two-bytes c = search needs
+-- the test that the bytes fit
+inside : (c : tie.Then1) → let x = c .before .before .before .args in x .at + 2 ≤ length (x .s .now)
+inside c = leb-true _ _ (sym (c .before .fits2 .ensures) ∙ c .if1 .taken)
 
-cast-two-bytes-2 : tie.Need-cast-two-bytes-2
-cast-two-bytes-2 c = search needs
+fits-requires : tie.Need-fits-requires
+fits-requires c κs = search needs
 
-two-bytes-requires : tie.Need-two-bytes-requires
-two-bytes-requires c κs = search needs
+cast-s : tie.Need-cast-s
+cast-s c = search needs
+
+slice-write-s : tie.Need-slice-write-s
+slice-write-s c = omega (arith, inside c)
+
+cast-s-2 : tie.Need-cast-s-2
+cast-s-2 c = search needs
+
+add-s : tie.Need-add-s
+add-s c = omega (arith, inside c)
+
+slice-write-s-2 : tie.Need-slice-write-s-2
+slice-write-s-2 c = simp length-set (omega (arith, inside c))
 
 same-length : tie.Need-same-length
 same-length c = search needs
 
 returns : tie.Need-returns
-returns c = simp (halfword-bytes, c .before .before .two-bytes .ensures)
+returns c = let x = c .before .before .before .args in rw halfword-bytes (two-sets (x .s .now) (x .at) _ _ (inside c))
+
+returns-2 : tie.Need-returns-2
+returns-2 c =
+    let x = c .before .before .before .args in
+    let h = leb-false (x .at + 2) (length (x .s .now)) (sym (c .before .fits2 .ensures) ∙ c .if1 .left) in
+    sym (store-unfit (x .s .now) (x .at) (littleEndian 2 (x .n)) (omega (arith, length-littleEndian 2 (x .n))))
 
 pub le-half-spec : {M : Type 1} → statement M
 le-half-spec =
-    tie.close (tie.spec cast-two-bytes cast-two-bytes-2 two-bytes-requires same-length returns)
+    tie.close
+    (tie.spec
+    fits-requires
+    cast-s
+    slice-write-s
+    cast-s-2
+    add-s
+    slice-write-s-2
+    same-length
+    returns
+    returns-2)
