@@ -1,6 +1,6 @@
 -- What a packet is answered (paper 01, "SCP").
 pub mod Laws
-use mathlib.Core.Bool.{Bool, true, false, not, _&&_, _||_}
+use mathlib.Core.Bool.{true, false, not}
 use mathlib.Core.List.{List, [], _++_}
 use Prim.Native.Nat.{ℕ, _+_}
 use lib.Dec.{ltb, eqb}
@@ -18,7 +18,9 @@ use Rattle.memory_map.specs.Entry as entry
 use Rattle.memory_map.specs.Entry.{RunEntry, runEntry}
 use Rattle.aplx.specs.Load.{loadWith}
 use Rattle.scp.specs.declared.answer.Identity.{Identity}
-use Rattle.scp.specs.Packet.{commandOf, arg1, arg2, arg3, dataOf, header, OK, LEN, CMD, ARG, aligned, version}
+use Rattle.scp.specs.Reply.{header, version}
+use Rattle.scp_packet.specs.Packet.{commandOf, arg1, arg2, dataOf, OK, LEN, CMD, ARG}
+use Rattle.scp_packet.specs.Transfer.{Transfer, codes, moves, transfer}
 
 -- the outcome of a packet
 pub data Reply : Type 0 where
@@ -73,31 +75,6 @@ loadPacket find s m =
     else loadedReaction (loadWith find m (arg1 s)) s
 
 -- ---- READ and WRITE
-abbrev pub tooLarge : List ℕ → Bool
-tooLarge s = ltb 256 (arg2 s) || ltb 2 (arg3 s)
-
-abbrev pub otherLength : List ℕ → Bool
-otherLength s = not (eqb (length s) (16 + arg2 s))
-
-abbrev pub misaligned : List ℕ → Bool
-misaligned s = not (aligned (arg3 s) (arg1 s) && aligned (arg3 s) (arg2 s))
-
--- what the tests of such a packet come to: a return code, or its range is transferred
-pub data Transfer : Type 0 where
-  codes : ℕ → Transfer
-  moves : Transfer
-
--- "under .. 16 (READ, WRITE) bytes, LEN. READ and WRITE: arg2 over 256 or arg3 over 2, ARG; WRITE whose packet is not 16 + arg2 bytes, LEN;
--- address or length not a multiple of 1, 2 or 4 by type, ARG". "Length 0 touches nothing and is answered OK once aligned, at any address."
-unfoldable pub transfer : Bool → List ℕ → Transfer
-transfer write s =
-    if ltb (length s) 16 then codes LEN
-    else if tooLarge s then codes ARG
-    else if write && otherLength s then codes LEN
-    else if misaligned s then codes ARG
-    else if eqb (arg2 s) 0 then codes OK
-    else moves
-
 -- "READ answers 4 + arg2 bytes, data at offset 4, in memory order for all types."; "non-empty range not permitted, ARG"
 abbrev pub readReaction : Found → List ℕ → List ℕ → Reaction
 readReaction (map.at p) s m = respond (header OK s ++ take (arg2 s) (drop p m)) m

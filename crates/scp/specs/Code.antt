@@ -3,9 +3,7 @@ pub mod Injective
 use Rattle.outcome.specs.Outcome.{kindOf, addressOf}
 use Rattle.scp.specs.declared.answer.Reply as code
 use Rattle.scp.specs.declared.answer.Reply.the-variants.{Refused, Silent, Response, Run, Load}
-use Rattle.scp.specs.declared.packet.Transfer as code-transfer
-use Rattle.scp.specs.declared.packet.Transfer.the-variants.{Codes, Moves}
-use Rattle.scp.specs.Answer.{Reply, refused, silent, responds, runs, loads, Transfer, codes, moves}
+use Rattle.scp.specs.Answer.{Reply, refused, silent, responds, runs, loads}
 
 abbrev pub replyOf : code.Reply → Reply
 replyOf (Refused r) = refused (r .number) (r .place)
@@ -13,7 +11,3 @@ replyOf Silent = silent
 replyOf (Response n) = responds n
 replyOf (Run e) = runs (kindOf e) (addressOf e)
 replyOf (Load e r) = loads (kindOf e) (addressOf e) r
-
-abbrev pub transferIs : code-transfer.Transfer → Transfer
-transferIs (Codes c) = codes c
-transferIs Moves = moves

@@ -8,9 +8,9 @@ use Rattle.words.specs.Bytes.{littleEndian}
 use Rattle.outcome.specs.Outcome.{arm, thumb}
 use Rattle.memory_map.specs.Lookup.{Lookup, lookupIn}
 use Rattle.scp.specs.declared.answer.Identity.{Identity}
-use Rattle.scp.specs.Packet.{version}
 use Rattle.scp.specs.Answer.{silent, responds, runs, without, runPacket, readPacket, writePacket, packet, answered}
 use Rattle.scp.specs.Open as group
+use Rattle.scp.specs.Reply.{version}
 
 -- 512 bytes at address 4096 with every right
 find : Lookup

@@ -1,5 +1,5 @@
 -- The SCP answerer (paper 01, "SCP"; document 000).
-pub mod Packet
+pub mod Reply
 pub mod Answer
 pub mod Code
 pub mod Open

@@ -1,8 +1,10 @@
 -- Groups of definitions that computed examples open together: `unfolding NAME` opens all in the line under NAME. Not needed for belief.
 use Rattle.words.specs.Open.{stores}
 use Rattle.memory_map.specs.Open.{lookups}
-use Rattle.scp.specs.Packet.{header, aligned, version}
-use Rattle.scp.specs.Answer.{runPacket, loadPacket, transfer, readPacket, writePacket, command, packet, reaction, scpAnswer}
+use Rattle.scp.specs.Answer.{runPacket, loadPacket, readPacket, writePacket, command, packet, reaction, scpAnswer}
+use Rattle.scp.specs.Reply.{header, version}
+use Rattle.scp_packet.specs.Packet.{aligned}
+use Rattle.scp_packet.specs.Transfer.{transfer}
 
 -- the answer to a packet
 unfoldable pub answers : Unit {0}

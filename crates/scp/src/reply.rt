@@ -3,9 +3,9 @@ ghost use mathlib.Core.Path.{_≡_};
 ghost use Prim.Native.Nat.{_≤_};
 ghost use lib.ListN.{length};
 ghost use Rattle.words.specs.Store.{store};
-ghost use Rattle.scp.specs.Packet.{header, version};
 ghost use Rattle.scp.specs.Answer.{responds};
 ghost use Rattle.scp.specs.Code.{replyOf};
+ghost use Rattle.scp.specs.Reply.{header, version};
 use crate::answer::Identity;
 use crate::answer::Reply;
 

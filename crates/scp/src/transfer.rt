@@ -6,15 +6,15 @@ ghost use lib.ListN.{length};
 ghost use Rattle.memory_region.specs.declared.region.Right.the-variants as right;
 ghost use Rattle.memory_map.specs.Map.{sound};
 ghost use Rattle.memory_map.specs.Lookup.{lookup};
-ghost use Rattle.scp.specs.Packet.{arg1, arg2};
 ghost use Rattle.scp.specs.Answer.{readReaction, readPacket, writeReaction, writePacket, answered};
 ghost use Rattle.scp.specs.Code.{replyOf};
 use crate::answer::Reply;
-use crate::packet::Transfer;
 use memory_map::map::Found;
 use memory_map::map::Map;
 use memory_region::region::Right;
+use scp_packet::packet::Transfer;
 use words::read::le_word_at;
+ghost use Rattle.scp_packet.specs.Packet.{arg1, arg2};
 
 // The bytes of a range, where it is permitted.
 fn read_range(map: Map, memory: &[u8], packet: &[u8], output: &mut [u8]) -> Reply
@@ -39,7 +39,7 @@ pub(crate) fn read(map: Map, memory: &[u8], packet: &[u8], output: &mut [u8]) ->
     requires { ⌜ (4 ≤ length (now packet)) × (272 ≤ length (now output)) × (sound map (length (now memory)) ≡ true) ⌝ }
     ensures { λ r. ⌜ record { reply = replyOf r; memory = now (memory .entry); output = now (output .exit) } ≡ answered (readPacket (lookup map) (now (packet .entry)) (now (memory .entry))) (now (output .entry)) ⌝ }
 {
-    match crate::packet::judge(packet, false) {
+    match scp_packet::packet::judge(packet, false) {
         Transfer::Codes(code) => crate::reply::coded(code, packet, output),
         Transfer::Moves => read_range(map, memory, packet, output),
     }
@@ -66,7 +66,7 @@ pub(crate) fn write(map: Map, memory: &mut [u8], packet: &[u8], output: &mut [u8
     requires { ⌜ (4 ≤ length (now packet)) × (272 ≤ length (now output)) × (sound map (length (now memory)) ≡ true) ⌝ }
     ensures { λ r. ⌜ record { reply = replyOf r; memory = now (memory .exit); output = now (output .exit) } ≡ answered (writePacket (lookup map) (now (packet .entry)) (now (memory .entry))) (now (output .entry)) ⌝ }
 {
-    match crate::packet::judge(packet, true) {
+    match scp_packet::packet::judge(packet, true) {
         Transfer::Codes(code) => crate::reply::coded(code, packet, output),
         Transfer::Moves => write_range(map, memory, packet, output),
     }

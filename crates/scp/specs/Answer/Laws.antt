@@ -5,9 +5,9 @@ use Prim.Native.Nat.{ℕ, _≤_}
 use lib.ListN.{length}
 use Rattle.words.specs.Store.{store}
 use Rattle.words.specs.Store.Laws.{store-nil}
-use Rattle.scp.specs.Packet.{header}
-use Rattle.scp.specs.Packet.Laws.{length-header}
 use Rattle.scp.specs.Answer.{Reply, responds, coded, without, answered}
+use Rattle.scp.specs.Reply.{header}
+use Rattle.scp.specs.Reply.Laws.{length-header}
 
 module _ (s m out : List ℕ) where
   -- a return code and the sequence number

@@ -5,10 +5,8 @@ use Rattle.outcome.specs.declared.answer.Entry.{Entry}
 use Rattle.outcome.specs.Outcome.Injective.{back-injective, refusalBack, entryBack, entry-back}
 use Rattle.scp.specs.declared.answer.Reply as code
 use Rattle.scp.specs.declared.answer.Reply.the-variants.{Refused, Silent, Response, Run, Load}
-use Rattle.scp.specs.declared.packet.Transfer as code-transfer
-use Rattle.scp.specs.declared.packet.Transfer.the-variants.{Codes, Moves}
-use Rattle.scp.specs.Answer.{Reply, refused, silent, responds, runs, loads, Transfer, codes, moves}
-use Rattle.scp.specs.Code.{replyOf, transferIs}
+use Rattle.scp.specs.Answer.{Reply, refused, silent, responds, runs, loads}
+use Rattle.scp.specs.Code.{replyOf}
 
 abbrev replyBack : Reply → code.Reply
 replyBack (refused n p) = Refused (refusalBack n p)
@@ -26,14 +24,3 @@ reply-back (Load e r) = ap (λ (x : Entry). Load x r) (entry-back e)
 
 pub reply-injective : (x y : code.Reply) → replyOf x ≡ replyOf y → x ≡ y
 reply-injective = back-injective replyOf replyBack reply-back
-
-abbrev transferBack : Transfer → code-transfer.Transfer
-transferBack (codes c) = Codes c
-transferBack moves = Moves
-
-transfer-back : (x : code-transfer.Transfer) → transferBack (transferIs x) ≡ x
-transfer-back (Codes c) = refl
-transfer-back Moves = refl
-
-pub transfer-injective : (x y : code-transfer.Transfer) → transferIs x ≡ transferIs y → x ≡ y
-transfer-injective = back-injective transferIs transferBack transfer-back

@@ -5,7 +5,7 @@ use native.Mathlib.Omega.{arith}
 use borrow.Author.Tests.{eq-eqb, ne-eqb}
 use Rattle.scp.specs.Answer.Laws.{coded-answer}
 use Rattle.scp.specs.Answer.{command}
-use Rattle.scp.specs.Packet.Laws.{length-version}
+use Rattle.scp.specs.Reply.Laws.{length-version}
 use Rattle.words.specs.Bytes.{littleEndianAt}
 use Rattle.scp.proofs.answer.answer_command.Statement.{statement}
 use Rattle.scp.proofs.answer.answer_command.Tie as tie

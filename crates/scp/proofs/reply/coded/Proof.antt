@@ -7,9 +7,9 @@ use lib.Seq.{length-take-le}
 use Rattle.words.specs.Bytes.{littleEndian}
 use Rattle.words.specs.Bytes.Laws.{length-littleEndian}
 use Rattle.words.specs.Store.Laws.{store-fits, store-behind}
-use Rattle.scp.specs.Packet.{header}
 use Rattle.scp.proofs.reply.coded.Statement.{statement}
 use Rattle.scp.proofs.reply.coded.Tie as tie
+use Rattle.scp.specs.Reply.{header}
 
 le-half-requires : tie.Need-le-half-requires
 le-half-requires c κs = search needs

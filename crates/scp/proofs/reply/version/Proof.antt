@@ -6,11 +6,12 @@ use Prim.Native.Nat.{_≤_}
 use native.Mathlib.Omega.{arith}
 use lib.ListN.{length}
 use Rattle.words.specs.Bytes.Laws.{length-littleEndian}
-use Rattle.scp.specs.Packet.{header, OK, name, version}
-use Rattle.scp.specs.Packet.Laws.{length-header}
+use Rattle.scp.specs.Reply.{header, name, version}
+use Rattle.scp.specs.Reply.Laws.{length-header}
 use Rattle.scp.proofs.Replies.{Put, put-behind}
 use Rattle.scp.proofs.reply.version.Statement.{statement}
 use Rattle.scp.proofs.reply.version.Tie as tie
+use Rattle.scp_packet.specs.Packet.{OK}
 
 cast-node : tie.Need-cast-node
 cast-node c = search needs

@@ -6,10 +6,10 @@ use borrow.Author.Tests.{lt-ltb, le-ltb}
 use lib.ListN.{length}
 use Rattle.aplx.specs.Load.Laws.{sound-load}
 use Rattle.scp.specs.Answer.Laws.{coded-answer}
-use Rattle.scp.specs.Packet.{arg1}
 use Rattle.scp.specs.Answer.{loadPacket}
 use Rattle.scp.proofs.run.load.Statement.{statement}
 use Rattle.scp.proofs.run.load.Tie as tie
+use Rattle.scp_packet.specs.Packet.{arg1}
 
 coded-requires : tie.Need-coded-requires
 coded-requires c κs = search needs

@@ -4,10 +4,11 @@ use mathlib.Core.Path.{sym, ap, _∙_}
 use mathlib.Core.Bool.{false}
 use native.Mathlib.Omega.{arith}
 use Rattle.scp.specs.Answer.{readPacket}
-use Rattle.scp.specs.Code.{transferIs}
-use Rattle.scp.proofs.Transfers.{moved, coded-return}
+use Rattle.scp.proofs.Transfers.{coded-return}
 use Rattle.scp.proofs.transfer.read.Statement.{statement}
 use Rattle.scp.proofs.transfer.read.Tie as tie
+use Rattle.scp_packet.specs.Code.{transferIs}
+use Rattle.scp_packet.specs.Transfer.Laws.{moved}
 
 judge-requires : tie.Need-judge-requires
 judge-requires c κs = search needs

@@ -7,10 +7,10 @@ use lib.ListN.{length}
 use Rattle.memory_region.specs.declared.region.Right.the-variants.{Read}
 use Rattle.memory_map.specs.Lookup.{at, lookup}
 use Rattle.memory_map.specs.Lookup.Laws.{lawful}
-use Rattle.scp.specs.Packet.{arg1, arg2, ARG}
 use Rattle.scp.proofs.Transfers.{looked, coded-return, data-return}
 use Rattle.scp.proofs.transfer.read_range.Statement.{statement}
 use Rattle.scp.proofs.transfer.read_range.Tie as tie
+use Rattle.scp_packet.specs.Packet.{arg1, arg2, ARG}
 
 -- the place of the range
 placed :

@@ -7,10 +7,10 @@ use Rattle.words.specs.Store.{store}
 use Rattle.memory_region.specs.declared.region.Right.the-variants.{Write}
 use Rattle.memory_map.specs.Lookup.{lookup}
 use Rattle.memory_map.specs.Lookup.Laws.{lawful}
-use Rattle.scp.specs.Packet.{arg1, arg2, dataOf, OK, ARG}
 use Rattle.scp.proofs.Transfers.{looked, coded-return, data-stored}
 use Rattle.scp.proofs.transfer.write_range.Statement.{statement}
 use Rattle.scp.proofs.transfer.write_range.Tie as tie
+use Rattle.scp_packet.specs.Packet.{arg1, arg2, dataOf, OK, ARG}
 
 le-word-at-requires : tie.Need-le-word-at-requires
 le-word-at-requires c κs = search needs

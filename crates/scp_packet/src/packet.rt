@@ -3,9 +3,9 @@ ghost use mathlib.Core.Path.{_≡_};
 ghost use mathlib.Core.Bool.{_&&_};
 ghost use Prim.Native.Nat.{_+_, _≤_};
 ghost use lib.ListN.{length};
-ghost use Rattle.scp.specs.Packet.{aligned};
-ghost use Rattle.scp.specs.Answer.{tooLarge, otherLength, misaligned, transfer};
-ghost use Rattle.scp.specs.Code.{transferIs};
+ghost use Rattle.scp_packet.specs.Packet.{aligned};
+ghost use Rattle.scp_packet.specs.Transfer.{tooLarge, otherLength, misaligned, transfer};
+ghost use Rattle.scp_packet.specs.Code.{transferIs};
 use words::read::le_word_at;
 
 // Whether a number is a multiple of 1, 2 or 4 by type.
@@ -58,12 +58,12 @@ fn is_other_length(packet: &[u8], write: bool) -> bool
 }
 
 // What the tests of a READ or WRITE packet come to: a return code, or its range is transferred.
-pub(crate) enum Transfer {
+pub enum Transfer {
     Codes(u16),
     Moves,
 }
 
-pub(crate) fn judge(packet: &[u8], write: bool) -> Transfer
+pub fn judge(packet: &[u8], write: bool) -> Transfer
     ensures { λ r. ⌜ transferIs r ≡ transfer write (now (packet .entry)) ⌝ }
 {
     if packet.len() < 16 {

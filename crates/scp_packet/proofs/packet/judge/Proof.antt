@@ -1,15 +1,14 @@
--- `scp::packet::judge` meets its contract: the tests are those of the definition, in its order.
+-- `scp_packet::packet::judge` meets its contract: the tests are those of the definition, in its order.
 use borrow.Author.Needs.{needs}
 use mathlib.Core.Path.{_≡_, sym, _∙_}
 use mathlib.Core.Bool.{false, _&&_}
-use native.Mathlib.Omega.{arith}
 use lib.Dec.{ltb}
 use lib.ListN.{length}
 use borrow.Author.Tests.{lt-ltb, le-ltb, eq-eqb, ne-eqb}
-use Rattle.scp.specs.Packet.{arg2}
-use Rattle.scp.specs.Answer.{tooLarge, otherLength, misaligned, transfer}
-use Rattle.scp.proofs.packet.judge.Statement.{statement}
-use Rattle.scp.proofs.packet.judge.Tie as tie
+use Rattle.scp_packet.specs.Packet.{arg2}
+use Rattle.scp_packet.specs.Transfer.{tooLarge, otherLength, misaligned, transfer}
+use Rattle.scp_packet.proofs.packet.judge.Statement.{statement}
+use Rattle.scp_packet.proofs.packet.judge.Tie as tie
 
 returns : tie.Need-returns
 unfolding transfer

@@ -1,8 +1,8 @@
--- `scp::packet::is_aligned` meets its contract: each type is a case of the definition.
+-- `scp_packet::packet::is_aligned` meets its contract: each type is a case of the definition.
 use borrow.Author.Tests.{eq-eqb, ne-eqb}
-use Rattle.scp.specs.Packet.{aligned}
-use Rattle.scp.proofs.packet.is_aligned.Statement.{statement}
-use Rattle.scp.proofs.packet.is_aligned.Tie as tie
+use Rattle.scp_packet.specs.Packet.{aligned}
+use Rattle.scp_packet.proofs.packet.is_aligned.Statement.{statement}
+use Rattle.scp_packet.proofs.packet.is_aligned.Tie as tie
 
 returns : tie.Need-returns
 unfolding aligned

@@ -1,9 +1,9 @@
--- `scp::packet::is_too_large` meets its contract: the words are the length and the type.
+-- `scp_packet::packet::is_too_large` meets its contract: the words are the length and the type.
 use borrow.Author.Needs.{needs}
 use mathlib.Core.Path.{sym}
 use borrow.Author.Tests.{lt-ltb, le-ltb}
-use Rattle.scp.proofs.packet.is_too_large.Statement.{statement}
-use Rattle.scp.proofs.packet.is_too_large.Tie as tie
+use Rattle.scp_packet.proofs.packet.is_too_large.Statement.{statement}
+use Rattle.scp_packet.proofs.packet.is_too_large.Tie as tie
 
 le-word-at-requires : tie.Need-le-word-at-requires
 le-word-at-requires c κs = search needs

@@ -1,7 +1,7 @@
--- `scp::packet::is_other_length` meets its contract: the length that the packet says is its second argument.
+-- `scp_packet::packet::is_other_length` meets its contract: the length that the packet says is its second argument.
 use borrow.Author.Needs.{needs}
-use Rattle.scp.proofs.packet.is_other_length.Statement.{statement}
-use Rattle.scp.proofs.packet.is_other_length.Tie as tie
+use Rattle.scp_packet.proofs.packet.is_other_length.Statement.{statement}
+use Rattle.scp_packet.proofs.packet.is_other_length.Tie as tie
 
 le-word-at-requires : tie.Need-le-word-at-requires
 le-word-at-requires c κs = search needs

@@ -7,7 +7,7 @@ use lib.ListN.{length, take, drop, length-append, length-drop}
 use lib.Seq.{length-take-le}
 use Rattle.words.specs.Bytes.Laws.{length-littleEndian}
 use Rattle.scp.specs.declared.answer.Identity.{Identity}
-use Rattle.scp.specs.Packet.{header, version}
+use Rattle.scp.specs.Reply.{header, version}
 
 module _ (s : List ℕ) (h : 4 ≤ length s) where
   pub length-header : (code : ℕ) → length (header code s) ≡ 4

@@ -1,9 +1,9 @@
--- `scp::packet::is_misaligned` meets its contract: the numbers tested are the address and the length, by type.
+-- `scp_packet::packet::is_misaligned` meets its contract: the numbers tested are the address and the length, by type.
 use borrow.Author.Needs.{needs}
 use mathlib.Core.Path.{_≡_, sym, _∙_}
-use Rattle.scp.specs.Packet.{arg1, arg2, arg3, aligned}
-use Rattle.scp.proofs.packet.is_misaligned.Statement.{statement}
-use Rattle.scp.proofs.packet.is_misaligned.Tie as tie
+use Rattle.scp_packet.specs.Packet.{arg1, arg2, arg3, aligned}
+use Rattle.scp_packet.proofs.packet.is_misaligned.Statement.{statement}
+use Rattle.scp_packet.proofs.packet.is_misaligned.Tie as tie
 
 -- the test of the address
 address : (c : tie.After-is-aligned)
