@@ -9,7 +9,7 @@ use lib.ListN.{length}
 use Rattle.memory_region.specs.declared.region.Right.the-variants.{Read}
 use Rattle.memory_map.specs.Lookup.{Lookup, found, placeOf}
 use Rattle.memory_map.specs.Lookup.Laws.{Lawful, found-at, found-place}
-use Rattle.aplx_look.specs.Command.{Command, commandAt}
+use Rattle.aplx_command.specs.Command.{Command, commandAt}
 use Rattle.aplx_look.specs.Walk.{commands}
 use Rattle.aplx_look.specs.Walk.Laws.{Entry, goes-found, commands-next, commands-end}
 use Rattle.aplx_look.specs.Look.{meetsHeader}

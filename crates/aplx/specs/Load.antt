@@ -10,7 +10,7 @@ use Rattle.memory_map.specs.declared.map.Map.{Map}
 use Rattle.outcome.specs.Outcome.{memoryAt, Loaded}
 use Rattle.memory_map.specs.Lookup.{Lookup, lookup, placeOf}
 use Rattle.aplx_copy.specs.Copy.{copied}
-use Rattle.aplx_look.specs.Command.{Command, copy, fill, exec, other}
+use Rattle.aplx_command.specs.Command.{Command, copy, fill, exec, other}
 use Rattle.aplx_look.specs.Look.{Look, look, aplxLook, outcomeOfLook}
 
 -- ---- the commands

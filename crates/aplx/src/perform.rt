@@ -6,13 +6,13 @@ ghost use Rattle.memory_map.specs.Map.{sound};
 ghost use Rattle.memory_map.specs.Lookup.{lookup};
 ghost use Rattle.aplx_look.specs.Walk.{commands};
 ghost use Rattle.aplx_look.specs.Look.Laws.{Ready};
-ghost use Rattle.aplx_look.specs.Code.{commandIs};
 ghost use Rattle.aplx.specs.Load.{perform, performAll};
 ghost use Rattle.aplx.specs.Load.Laws.{Performable};
-use aplx_look::command::Command;
+use aplx_command::command::Command;
 use memory_map::map::Map;
 use memory_map::map::place;
 use memory_region::region::Right;
+ghost use Rattle.aplx_command.specs.Code.{commandIs};
 
 // One command whose ranges are permitted.
 fn perform_command(map: Map, memory: &mut [u8], command: Command)
@@ -44,7 +44,7 @@ pub(crate) fn perform_all(map: Map, memory: &mut [u8], header: u32, count: usize
     let mut i: usize = 0;
     while i < count {
         let entry = place(map.lookup(Right::Read, address, 16));
-        let command = aplx_look::command::command_at(memory, entry, address);
+        let command = aplx_command::command::command_at(memory, entry, address);
         perform_command(map, memory, command);
         address += 16;
         i += 1;

@@ -1,21 +1,12 @@
 -- What the cases of the code's enums say, in the terms of the definitions.
 pub mod Injective
 use Rattle.outcome.specs.Outcome.{stopOf, Ending, stops, refuses}
-use Rattle.aplx_look.specs.declared.command.Command as code-command
-use Rattle.aplx_look.specs.declared.command.Command.the-variants.{Copy, Fill, Exec, Other}
 use Rattle.aplx_look.specs.declared.judge.Verdict as code-verdict
 use Rattle.aplx_look.specs.declared.judge.Verdict.the-variants as verdict
 use Rattle.aplx_look.specs.declared.walk.Ending as code-ending
 use Rattle.aplx_look.specs.declared.walk.Ending.the-variants as ending
 use Rattle.aplx_look.specs.declared.walk.Walked.{Walked}
-use Rattle.aplx_look.specs.Command.{Command, copy, fill, exec, other}
 use Rattle.aplx_look.specs.Walk.{Verdict, goes, halts, Walk}
-
-abbrev pub commandIs : code-command.Command → Command
-commandIs (Copy d s n) = copy d s n
-commandIs (Fill d n w) = fill d n w
-commandIs (Exec a) = exec a
-commandIs (Other c) = other c
 
 abbrev pub verdictIs : code-verdict.Verdict → Verdict
 verdictIs verdict.Goes = goes

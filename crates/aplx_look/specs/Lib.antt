@@ -1,5 +1,4 @@
 -- What an APLX load answers (paper 01, "APLX"; document 002).
-pub mod Command
 pub mod Walk
 pub mod Look
 pub mod Code

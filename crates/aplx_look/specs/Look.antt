@@ -13,7 +13,7 @@ use Rattle.outcome.specs.Outcome.{Ending, stops, refuses, Outcome, outcomeAt}
 use Rattle.outcome.specs.Destinations.{Range, storedIn}
 use Rattle.memory_map.specs.Map.{sound}
 use Rattle.memory_map.specs.Lookup.{Lookup, lookup}
-use Rattle.aplx_look.specs.Command.{Command, copy, fill, exec, other}
+use Rattle.aplx_command.specs.Command.{Command, copy, fill, exec, other}
 use Rattle.aplx_look.specs.Walk.{walk, commands}
 
 -- ---- destinations

@@ -2,7 +2,7 @@
 use Rattle.words.specs.Open as words
 use Rattle.outcome.specs.Destinations.{storedIn}
 use Rattle.memory_map.specs.Open.{lookups}
-use Rattle.aplx_look.specs.Command.{commandOf, commandAt}
+use Rattle.aplx_command.specs.Command.{commandOf, commandAt}
 use Rattle.aplx_look.specs.Walk.{otherCommand, tests, judge, walkFor, walk, commands}
 use Rattle.aplx_look.specs.Look.{destinations, meetsHeader, headerTest, look}
 

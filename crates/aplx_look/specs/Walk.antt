@@ -11,7 +11,7 @@ use Rattle.memory_map.specs.Lookup as map
 use Rattle.memory_map.specs.Lookup.{Lookup, Found, placeOf}
 use Rattle.memory_map.specs.Entry as entry
 use Rattle.memory_map.specs.Entry.{RunEntry, runEntry}
-use Rattle.aplx_look.specs.Command.{Command, copy, fill, exec, other, commandAt}
+use Rattle.aplx_command.specs.Command.{Command, copy, fill, exec, other, commandAt}
 
 -- what the tests of one entry say
 pub data Verdict : Type 0 where

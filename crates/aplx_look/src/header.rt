@@ -10,14 +10,14 @@ ghost use Rattle.aplx_look.specs.Walk.{commands};
 ghost use Rattle.aplx_look.specs.Walk.Laws.{Passed};
 ghost use Rattle.aplx_look.specs.Look.{meetsHeader, lookOf, outcomeOfLook};
 ghost use Rattle.aplx_look.specs.Look.Header.{bytesOf};
-ghost use Rattle.aplx_look.specs.Code.{commandIs};
-use crate::command::Command;
+use aplx_command::command::Command;
 use memory_map::map::Map;
 use memory_map::map::place;
 use memory_region::region::Right;
 use outcome::answer::Answer;
 use outcome::answer::Refusal;
 use outcome::answer::Stop;
+ghost use Rattle.aplx_command.specs.Code.{commandIs};
 
 // The refusal of a destination over the entries read.
 const MEETS_HEADER: u32 = 8;
@@ -73,7 +73,7 @@ pub(crate) fn check_header(map: Map, memory: &[u8], header: u32, count: usize, s
     let mut i: usize = 0;
     while i < count {
         let entry = place(map.lookup(Right::Read, address, 16));
-        let command = crate::command::command_at(memory, entry, address);
+        let command = aplx_command::command::command_at(memory, entry, address);
         if meets_header(command, header, size) {
             return Answer::Refused(Refusal {
                 number: MEETS_HEADER,

@@ -5,10 +5,10 @@ ghost use Prim.Native.Nat.{ℕ, _+_, _<_};
 ghost use lib.ListN.{length};
 ghost use Rattle.memory_map.specs.Map.{sound};
 ghost use Rattle.memory_map.specs.Lookup.{lookup};
-ghost use Rattle.aplx_look.specs.Command.{copy, fill, exec};
+ghost use Rattle.aplx_command.specs.Command.{copy, fill, exec};
 ghost use Rattle.aplx_look.specs.Walk.{goes, permitted, otherCommand, tests, judge};
-ghost use Rattle.aplx_look.specs.Code.{commandIs, verdictIs};
-use crate::command::Command;
+ghost use Rattle.aplx_look.specs.Code.{verdictIs};
+use aplx_command::command::Command;
 use memory_map::map::Found;
 use memory_map::map::Map;
 use memory_map::map::RunEntry;
@@ -17,6 +17,7 @@ use outcome::answer::NOT_ALIGNED;
 use outcome::answer::Refusal;
 use outcome::answer::Stop;
 use outcome::answer::ZERO_LENGTH;
+ghost use Rattle.aplx_command.specs.Code.{commandIs};
 
 // The refusal of an entry whose 16 bytes lie in no readable region.
 const ENTRY_NOT_READABLE: u32 = 6;
@@ -142,7 +143,7 @@ pub(crate) fn judge_entry(map: Map, memory: &[u8], address: u32, index: usize) -
 {
     match map.lookup(Right::Read, address, 16) {
         Found::At(place) => {
-            let command = crate::command::command_at(memory, place, address);
+            let command = aplx_command::command::command_at(memory, place, address);
             judge_command(map, command, address, index)
         }
         Found::Refused(_) => Verdict::Refused(Refusal {

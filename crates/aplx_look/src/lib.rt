@@ -1,5 +1,4 @@
 // What an APLX load answers. Nothing is stored.
-pub mod command; // what an entry commands
 pub mod look; // the whole answer
 pub mod walk; // the walk over the entries, to the stop
 mod judge; // the tests of one entry

@@ -15,8 +15,8 @@ use Rattle.memory_region.specs.declared.region.Right.the-variants.{Read, Write}
 use Rattle.memory_map.specs.Lookup.{Lookup, at, found, placeOf}
 use Rattle.memory_map.specs.Lookup.Laws.{Lawful, apart, found-at, range-inside}
 use Rattle.aplx_copy.specs.Copy.Laws.{length-copied, copied-outside}
-use Rattle.aplx_look.specs.Command.{Command, copy, fill, exec, other, commandAt}
-use Rattle.aplx_look.specs.Command.Laws.{same-entry}
+use Rattle.aplx_command.specs.Command.{Command, copy, fill, exec, other, commandAt}
+use Rattle.aplx_command.specs.Command.Laws.{same-entry}
 use Rattle.aplx_look.specs.Look.{meetsHeader}
 use Rattle.aplx.specs.Load.{perform}
 use Rattle.aplx.specs.Load.Laws.{Performable}

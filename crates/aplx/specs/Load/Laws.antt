@@ -7,7 +7,7 @@ use lib.ListN.{length}
 use Rattle.memory_map.specs.declared.map.Map.{Map}
 use Rattle.memory_map.specs.Map.{sound}
 use Rattle.memory_map.specs.Lookup.{Lookup, lookup}
-use Rattle.aplx_look.specs.Command.{Command, commandAt}
+use Rattle.aplx_command.specs.Command.{Command, commandAt}
 use Rattle.aplx_look.specs.Walk.{goes, tests}
 use Rattle.aplx_look.specs.Look.{aplxLook}
 use Rattle.aplx_look.specs.Look.Header.{bytesOf}

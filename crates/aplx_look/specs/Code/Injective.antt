@@ -3,31 +3,13 @@
 use mathlib.Core.Path.{_≡_, refl, ap}
 use Rattle.outcome.specs.Outcome.{Ending, stops, refuses}
 use Rattle.outcome.specs.Outcome.Injective.{back-injective, refusalBack, stopBack, stop-back}
-use Rattle.aplx_look.specs.declared.command.Command as code-command
-use Rattle.aplx_look.specs.declared.command.Command.the-variants.{Copy, Fill, Exec, Other}
 use Rattle.aplx_look.specs.declared.judge.Verdict as code-verdict
 use Rattle.aplx_look.specs.declared.judge.Verdict.the-variants as verdict
 use Rattle.aplx_look.specs.declared.walk.Ending as code-ending
 use Rattle.aplx_look.specs.declared.walk.Ending.the-variants as ending
 use Rattle.aplx_look.specs.declared.walk.Walked.{Walked}
-use Rattle.aplx_look.specs.Command.{Command, copy, fill, exec, other}
 use Rattle.aplx_look.specs.Walk.{Verdict, goes, halts, Walk}
-use Rattle.aplx_look.specs.Code.{commandIs, verdictIs, endingIs, walkIs}
-
-abbrev commandBack : Command → code-command.Command
-commandBack (copy d s n) = Copy d s n
-commandBack (fill d n w) = Fill d n w
-commandBack (exec a) = Exec a
-commandBack (other c) = Other c
-
-command-back : (x : code-command.Command) → commandBack (commandIs x) ≡ x
-command-back (Copy d s n) = refl
-command-back (Fill d n w) = refl
-command-back (Exec a) = refl
-command-back (Other c) = refl
-
-pub command-injective : (x y : code-command.Command) → commandIs x ≡ commandIs y → x ≡ y
-command-injective = back-injective commandIs commandBack command-back
+use Rattle.aplx_look.specs.Code.{verdictIs, endingIs, walkIs}
 
 abbrev verdictBack : Verdict → code-verdict.Verdict
 verdictBack goes = verdict.Goes

@@ -12,7 +12,7 @@ use Rattle.outcome.specs.Outcome.{Stop, Ending, stops, refuses}
 use Rattle.outcome.specs.Destinations.{storedIn}
 use Rattle.outcome.specs.Destinations.Laws.{stored-append}
 use Rattle.memory_map.specs.Lookup.{Lookup, placeOf}
-use Rattle.aplx_look.specs.Command.{Command, copy, fill, exec, other, commandAt}
+use Rattle.aplx_command.specs.Command.{Command, copy, fill, exec, other, commandAt}
 use Rattle.aplx_look.specs.Walk.{commands}
 use Rattle.aplx_look.specs.Walk.Laws.{commands-next, commands-end}
 use Rattle.aplx_look.specs.Look.{destinationsOf, destinations, meetsHeader, headerTest}

@@ -18,7 +18,7 @@ use Rattle.outcome.specs.Destinations.{storedIn}
 use Rattle.memory_map.specs.Map.{sound}
 use Rattle.memory_map.specs.Lookup.{Lookup, Found, at, refused, found, lookup, placeOf}
 use Rattle.memory_map.specs.Lookup.Laws.{Lawful, found-at}
-use Rattle.aplx_look.specs.Command.{Command, copy, fill, exec, other, commandOf, commandAt}
+use Rattle.aplx_command.specs.Command.{Command, copy, fill, exec, other, commandOf, commandAt}
 use Rattle.aplx_look.specs.Walk.{Verdict, goes, halts, permitted, tests, walk, commands}
 use Rattle.aplx_look.specs.Walk.Laws.{Passed, walk-passed, length-commands}
 use Rattle.aplx_look.specs.Look.Header.{bytesOf, same-stop, clear-from}

@@ -9,7 +9,7 @@ use lib.ListN.{length}
 use Rattle.memory_region.specs.declared.region.Right.the-variants.{Read}
 use Rattle.outcome.specs.Outcome.{Stop, Ending, stops, refuses}
 use Rattle.memory_map.specs.Lookup.{Lookup, Found, at, refused, placeOf}
-use Rattle.aplx_look.specs.Command.{commandAt}
+use Rattle.aplx_command.specs.Command.{commandAt}
 use Rattle.aplx_look.specs.Walk.{Verdict, goes, halts, tests, judgeAt, judge, after, walkFor, walk, commands}
 
 -- k entries from address h on passed their tests

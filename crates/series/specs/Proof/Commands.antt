@@ -20,7 +20,7 @@ use Rattle.plan.specs.Meaning.Laws.{permitted-at, stopped-first}
 use Rattle.aplx_image.specs.Carries.{Says, Carries}
 use Rattle.aplx_image.specs.Carries.Laws.{says-whole}
 use Rattle.aplx_copy.specs.Copy.Laws.{copied-apart}
-use Rattle.aplx_look.specs.Command.{Command}
+use Rattle.aplx_command.specs.Command.{Command}
 use Rattle.aplx_look.specs.Walk.{commands}
 use Rattle.aplx_look.specs.Look.{meetsHeader, headerTest}
 use Rattle.aplx.specs.Load.{perform, performAll}

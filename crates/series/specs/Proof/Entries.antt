@@ -23,8 +23,8 @@ use Rattle.plan.specs.Plan.{Piece, put, fill, run}
 use Rattle.plan.specs.Plan.Laws.{Packable}
 use Rattle.plan.specs.Meaning.{ranged, entered, permit, stretch, Finish, ends, runs, denies, or-deny, finish}
 use Rattle.aplx_image.specs.Carries.{EntryAt, Says, EndAt, Carries}
-use Rattle.aplx_look.specs.Command as command
-use Rattle.aplx_look.specs.Command.{Command, copy, exec, commandOf, commandAt}
+use Rattle.aplx_command.specs.Command as command
+use Rattle.aplx_command.specs.Command.{Command, copy, exec, commandOf, commandAt}
 use Rattle.aplx_look.specs.Walk.{goes, halts, permitted, runOf, otherCommand, tests, judge, Walk, after, walkFor}
 use Rattle.series.specs.Medium.{aplx, endingIn}
 

@@ -20,7 +20,7 @@ use Rattle.plan.specs.Plan.Laws.{Packable}
 use Rattle.plan.specs.Meaning.{effects, stretch, Finish, ends, runs, denies, Stopped, finish, meant, meaning}
 use Rattle.aplx_image.specs.Carries.{Carries}
 use Rattle.aplx_image.specs.Carries.Laws.{carries-drop}
-use Rattle.aplx_look.specs.Command.{Command}
+use Rattle.aplx_command.specs.Command.{Command}
 use Rattle.aplx_look.specs.Walk.{Walk, walk, commands}
 use Rattle.aplx_look.specs.Look.{tested, look}
 use Rattle.aplx.specs.Load.{performAll, loadWith}

@@ -7,10 +7,10 @@ use borrow.Author.Needs.{needs}
 use Rattle.memory_region.specs.declared.region.Right.the-variants.{Read}
 use Rattle.memory_map.specs.Lookup.{lookup, placeOf}
 use Rattle.memory_map.specs.Lookup.Laws.{lawful}
-use Rattle.aplx_look.specs.Code.{commandIs}
 use Rattle.aplx.proofs.Storing.{entryAt, Progress, start, finished, Next, next}
 use Rattle.aplx.proofs.perform.perform_all.Statement.{statement}
 use Rattle.aplx.proofs.perform.perform_all.Tie as tie
+use Rattle.aplx_command.specs.Code.{commandIs}
 
 abbrev Inv-loop : tie.InvT-loop
 Inv-loop map memory₀ header count address₀ i₀ memory address i = Progress (lookup map) memory₀ header count memory address i

@@ -12,16 +12,16 @@ use Rattle.outcome.specs.Outcome.{stops, stopOf}
 use Rattle.outcome.specs.Destinations.{storedIn}
 use Rattle.memory_map.specs.Lookup.{lookup, placeOf}
 use Rattle.memory_map.specs.Lookup.Laws.{lawful, found-place}
-use Rattle.aplx_look.specs.Command.{Command, commandAt}
+use Rattle.aplx_command.specs.Command.{Command, commandAt}
 use Rattle.aplx_look.specs.Walk.{commands}
 use Rattle.aplx_look.specs.Walk.Laws.{Entry, goes-found}
 use Rattle.aplx_look.specs.Look.{destinations, meetsHeader, headerTest}
 use Rattle.aplx_look.specs.Look.Header.{bytesOf, header-met, header-on, header-end, bytes-on, bytes-end}
 use Rattle.aplx_look.specs.Look.Laws.{goes-bytes}
-use Rattle.aplx_look.specs.Code.{commandIs}
 use Rattle.aplx_look.proofs.Looking.{outcome-tested}
 use Rattle.aplx_look.proofs.header.check_header.Statement.{statement}
 use Rattle.aplx_look.proofs.header.check_header.Tie as tie
+use Rattle.aplx_command.specs.Code.{commandIs}
 
 abbrev Inv-loop : tie.InvT-loop
 Inv-loop map memory header count stop size address₀ stored₀ i₀ address stored i =

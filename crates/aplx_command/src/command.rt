@@ -1,7 +1,7 @@
 // What an entry commands.
 ghost use mathlib.Core.Path.{_≡_};
-ghost use Rattle.aplx_look.specs.Command.{commandOf, commandAt};
-ghost use Rattle.aplx_look.specs.Code.{commandIs};
+ghost use Rattle.aplx_command.specs.Command.{commandOf, commandAt};
+ghost use Rattle.aplx_command.specs.Code.{commandIs};
 
 // Lengths are rounded up, and a source is an address.
 pub enum Command {

@@ -6,7 +6,7 @@ use native.Mathlib.Omega.{arith}
 use lib.ListN.{take, drop}
 use Rattle.words.specs.Bytes.{littleEndianAt}
 use Rattle.words.specs.Bytes.Laws.{little-at-part}
-use Rattle.aplx_look.specs.Command.{commandAt}
+use Rattle.aplx_command.specs.Command.{commandAt}
 
 -- an entry whose words are the same says the same
 pub same-entry :

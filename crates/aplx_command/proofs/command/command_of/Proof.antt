@@ -1,9 +1,9 @@
--- `aplx_look::command::command_of` meets its contract: the tests of the command word are those of the definition, in its order.
+-- `aplx_command::command::command_of` meets its contract: the tests of the command word are those of the definition, in its order.
 use borrow.Author.Needs.{needs}
 use borrow.Author.Tests.{eq-eqb, ne-eqb}
-use Rattle.aplx_look.specs.Command.{commandOf}
-use Rattle.aplx_look.proofs.command.command_of.Statement.{statement}
-use Rattle.aplx_look.proofs.command.command_of.Tie as tie
+use Rattle.aplx_command.specs.Command.{commandOf}
+use Rattle.aplx_command.proofs.command.command_of.Statement.{statement}
+use Rattle.aplx_command.proofs.command.command_of.Tie as tie
 
 round-up-requires : tie.Need-round-up-requires
 round-up-requires c κs = search needs

@@ -1,8 +1,8 @@
--- `aplx_look::command::command_at` meets its contract: its four words are those of the definition.
+-- `aplx_command::command::command_at` meets its contract: its four words are those of the definition.
 use borrow.Author.Needs.{needs}
-use Rattle.aplx_look.specs.Command.{commandAt}
-use Rattle.aplx_look.proofs.command.command_at.Statement.{statement}
-use Rattle.aplx_look.proofs.command.command_at.Tie as tie
+use Rattle.aplx_command.specs.Command.{commandAt}
+use Rattle.aplx_command.proofs.command.command_at.Statement.{statement}
+use Rattle.aplx_command.proofs.command.command_at.Tie as tie
 
 read-requires : tie.Need-read-requires
 read-requires c κs = search needs

@@ -1,0 +1,2 @@
+// The entries of an APLX header.
+pub mod command; // what an entry commands
