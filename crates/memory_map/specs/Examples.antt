@@ -4,7 +4,7 @@ use mathlib.Core.Bool.{true, false}
 use mathlib.Core.List.{List, [], _∷_}
 use Prim.Native.Nat.{ℕ, zero, suc, _*_}
 use Rattle.memory_region.specs.declared.region.Region.{Region}
-use Rattle.memory_region.specs.declared.region.Right.the-variants.{Read, Write, Run}
+use Rattle.memory_region.specs.declared.region.Right.the-variants.{Read, Write}
 use Rattle.memory_map.specs.declared.map.Map.{Map}
 use Rattle.outcome.specs.Outcome as outcome
 use Rattle.memory_map.specs.Map.{sound, emptyMap, Verdict, taken, add}

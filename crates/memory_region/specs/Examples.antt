@@ -1,6 +1,6 @@
 -- Computed examples of the rules of regions (paper 01, "Memory map" and "Bench pieces with known weight").
 use mathlib.Core.Path.{_≡_, refl}
-use mathlib.Core.Bool.{Bool, true, false}
+use mathlib.Core.Bool.{true, false}
 use Prim.Native.Nat.{ℕ}
 use Rattle.words.specs.Open.{tests}
 use Rattle.memory_region.specs.declared.region.Region.{Region}

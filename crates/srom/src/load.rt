@@ -1,6 +1,5 @@
 // The load of a serial ROM.
 ghost use mathlib.Core.Path.{_≡_};
-ghost use lib.ListN.{length};
 ghost use Rattle.outcome.specs.Outcome.{outcomeOf};
 ghost use Rattle.srom.specs.Load.{sromLook, outcomeOfWalk, sromLoad};
 use memory_map::map::Map;

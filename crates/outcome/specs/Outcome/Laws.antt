@@ -3,7 +3,7 @@ use mathlib.Core.Path.{_≡_, refl}
 use mathlib.Core.List.{List}
 use Prim.Native.Nat.{ℕ}
 use native.Mathlib.Omega.{arith}
-use Rattle.outcome.specs.Outcome.{Stop, Outcome, refused, accepted, Ending, stops, refuses, outcomeAt, endingOf, memoryAt}
+use Rattle.outcome.specs.Outcome.{Stop, refused, accepted, Ending, stops, refuses, outcomeAt, endingOf, memoryAt}
 
 pub ending-at : (x : Ending) (t b : ℕ) → endingOf (outcomeAt x t b) ≡ x
 ending-at (stops s) t b = refl

@@ -1,5 +1,4 @@
 -- `plan::piece::judge_kind` meets its contract: each kind has the tests of the definition.
-use denote.Ref.{now}
 use borrow.Author.Tests.{eq-eqb, ne-eqb}
 use Rattle.plan.specs.Plan.{judgeKind}
 use borrow.Author.Needs.{needs}

@@ -1,5 +1,5 @@
 -- `word_blocks::fill::whole_words` meets its contract. The loop's invariant: the word repeated i times is stored so far.
-use mathlib.Core.Path.{_≡_, refl, ap, sym, _∙_}
+use mathlib.Core.Path.{_≡_, refl, sym}
 use mathlib.Core.List.{List}
 use Prim.Native.Nat.{ℕ, _+_, _-_, _*_, _/_, _%_, _≤_}
 use native.Mathlib.Omega.{arith}
@@ -9,7 +9,7 @@ use Rattle.words.specs.Bytes.{littleEndian}
 use Rattle.words.specs.Bytes.Laws.{word-bytes, length-littleEndian}
 use Rattle.word_blocks.specs.Repeat.{repeated}
 use Rattle.word_blocks.specs.Repeat.Laws.{repeated-more, length-repeated}
-use Rattle.words.specs.Store.{store, storeIfFits}
+use Rattle.words.specs.Store.{store}
 use Rattle.words.specs.Store.Laws.{four-sets, store-behind, store-nil}
 use Rattle.word_blocks.proofs.fill.whole_words.Statement.{statement}
 use Rattle.word_blocks.proofs.fill.whole_words.Tie as tie
