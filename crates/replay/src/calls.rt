@@ -66,7 +66,7 @@ fn kind(kinds: &[u8], index: usize) -> u8 {
 }
 
 // The kind of a call's argument: t a table, m a memory, i an input (a rom, a packet or a plan), o an output, 1, 2, 4, 8 a number of so many bytes,
-// r a right.
+// r a right; 0 behind the last one, and n where there is no such call.
 fn kind_of(call: u32, index: usize) -> u8 {
     match call {
         1 => kind(b"t4444", index),
@@ -79,7 +79,7 @@ fn kind_of(call: u32, index: usize) -> u8 {
         8 => kind(b"t8", index),
         9 => kind(b"tr48", index),
         10 => kind(b"t4", index),
-        _ => 0,
+        _ => b'n',
     }
 }
 
@@ -89,8 +89,17 @@ fn most_of(kind: u8) -> usize {
         b'1' => 255,
         b'2' => 65535,
         b'4' => 4294967295,
-        b'r' => 4,
         _ => 18446744073709551615,
+    }
+}
+
+// A right: 1, 2 or 4.
+fn right(line: &[u8], at: usize, numbers: &mut [usize; 9]) -> usize {
+    let next = number(line, at, 4, numbers, 1);
+    match numbers[1] {
+        0 => NONE,
+        3 => NONE,
+        _ => next,
     }
 }
 
@@ -110,6 +119,8 @@ fn argument(
     let kind = kind_of(call, index);
     match kind {
         0 => at,
+        b'n' => NONE,
+        b'r' => right(line, at, numbers),
         b't' => bytes(line, at, table, kept, 0),
         b'm' => bytes(line, at, memory, kept, 1),
         b'o' => bytes(line, at, out, kept, 2),

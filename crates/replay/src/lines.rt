@@ -27,15 +27,11 @@ fn name(line: &[u8]) -> bool {
     true
 }
 
-// Whether a right is none of 1, 2 and 4.
-fn wrong(call: u32, right: usize) -> bool {
-    if call != 9 {
-        return false;
-    }
-    if right == 0 {
-        return true;
-    }
-    right == 3
+// The name of the call.
+fn title(line: &[u8]) {
+    let end = place_of(line, 0, b' ');
+    output::text(&line[..end]);
+    output::text(b"\n");
 }
 
 // Whether the line is a call; it was made then.
@@ -49,13 +45,9 @@ fn call(
 ) -> bool {
     let mut numbers = [0usize; 9];
     let called = call_of(line);
-    if called == 0 {
-        return false;
-    }
-    let end = place_of(line, 0, b' ');
     if !arguments(
         line,
-        end,
+        place_of(line, 0, b' '),
         called,
         kept,
         &mut numbers,
@@ -66,11 +58,7 @@ fn call(
     ) {
         return false;
     }
-    if wrong(called, numbers[1]) {
-        return false;
-    }
-    output::text(&line[..end]);
-    output::text(b"\n");
+    title(line);
     make(called, *kept, numbers, table, memory, out, input);
     true
 }

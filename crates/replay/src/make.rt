@@ -32,45 +32,6 @@ fn made(
     }
 }
 
-fn with_out(
-    call: u32,
-    kept: [usize; 4],
-    numbers: [usize; 9],
-    table: &mut [u8],
-    memory: &mut [u8],
-    out: &mut [u8],
-    input: &[u8],
-) {
-    let n = fit(out, kept[2]);
-    made(call, numbers, table, memory, &mut out[..n], input);
-}
-
-fn with_memory(
-    call: u32,
-    kept: [usize; 4],
-    numbers: [usize; 9],
-    table: &mut [u8],
-    memory: &mut [u8],
-    out: &mut [u8],
-    input: &[u8],
-) {
-    let n = fit(memory, kept[1]);
-    with_out(call, kept, numbers, table, &mut memory[..n], out, input);
-}
-
-fn with_table(
-    call: u32,
-    kept: [usize; 4],
-    numbers: [usize; 9],
-    table: &mut [u8],
-    memory: &mut [u8],
-    out: &mut [u8],
-    input: &[u8],
-) {
-    let n = fit(table, kept[0]);
-    with_memory(call, kept, numbers, &mut table[..n], memory, out, input);
-}
-
 // The call, each buffer cut to the length that was kept for it.
 pub(crate) fn make(
     call: u32,
@@ -81,6 +42,16 @@ pub(crate) fn make(
     out: &mut [u8],
     input: &[u8],
 ) {
-    let n = fit(input, kept[3]);
-    with_table(call, kept, numbers, table, memory, out, &input[..n]);
+    let t = fit(table, kept[0]);
+    let m = fit(memory, kept[1]);
+    let o = fit(out, kept[2]);
+    let i = fit(input, kept[3]);
+    made(
+        call,
+        numbers,
+        &mut table[..t],
+        &mut memory[..m],
+        &mut out[..o],
+        &input[..i],
+    );
 }
