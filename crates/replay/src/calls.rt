@@ -111,10 +111,10 @@ fn argument(
     index: usize,
     kept: &mut [usize; 4],
     numbers: &mut [usize; 9],
-    table: &mut [u8],
-    memory: &mut [u8],
-    out: &mut [u8],
-    input: &mut [u8],
+    table: &mut [u8; 8192],
+    memory: &mut [u8; 8192],
+    out: &mut [u8; 8192],
+    input: &mut [u8; 8192],
 ) -> usize {
     let kind = kind_of(call, index);
     match kind {
@@ -136,10 +136,10 @@ pub(crate) fn arguments(
     call: u32,
     kept: &mut [usize; 4],
     numbers: &mut [usize; 9],
-    table: &mut [u8],
-    memory: &mut [u8],
-    out: &mut [u8],
-    input: &mut [u8],
+    table: &mut [u8; 8192],
+    memory: &mut [u8; 8192],
+    out: &mut [u8; 8192],
+    input: &mut [u8; 8192],
 ) -> bool {
     let mut at = from;
     let mut i: usize = 0;

@@ -38,10 +38,10 @@ fn title(line: &[u8]) {
 fn call(
     line: &[u8],
     kept: &mut [usize; 4],
-    table: &mut [u8],
-    memory: &mut [u8],
-    out: &mut [u8],
-    input: &mut [u8],
+    table: &mut [u8; 8192],
+    memory: &mut [u8; 8192],
+    out: &mut [u8; 8192],
+    input: &mut [u8; 8192],
 ) -> bool {
     let mut numbers = [0usize; 9];
     let called = call_of(line);
@@ -67,10 +67,10 @@ fn call(
 fn one(
     line: &[u8],
     kept: &mut [usize; 4],
-    table: &mut [u8],
-    memory: &mut [u8],
-    out: &mut [u8],
-    input: &mut [u8],
+    table: &mut [u8; 8192],
+    memory: &mut [u8; 8192],
+    out: &mut [u8; 8192],
+    input: &mut [u8; 8192],
 ) -> bool {
     if silent(line) {
         return true;
@@ -85,10 +85,10 @@ fn one(
 pub(crate) fn all(
     text: &[u8],
     kept: &mut [usize; 4],
-    table: &mut [u8],
-    memory: &mut [u8],
-    out: &mut [u8],
-    input: &mut [u8],
+    table: &mut [u8; 8192],
+    memory: &mut [u8; 8192],
+    out: &mut [u8; 8192],
+    input: &mut [u8; 8192],
 ) -> bool {
     let mut at: usize = 0;
     let mut number: u64 = 0;

