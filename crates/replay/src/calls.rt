@@ -5,6 +5,7 @@ use crate::argument::number;
 use crate::scan::NONE;
 use crate::scan::behind_word;
 
+// The number of the call that changes a map or a memory, or 0.
 fn load_of(line: &[u8]) -> u32 {
     if behind_word(line, b"map_add ") != NONE {
         return 1;
@@ -21,6 +22,7 @@ fn load_of(line: &[u8]) -> u32 {
     0
 }
 
+// The number of the call on a plan, or 0.
 fn plan_of(line: &[u8]) -> u32 {
     if behind_word(line, b"plan_read ") != NONE {
         return 5;
@@ -34,6 +36,7 @@ fn plan_of(line: &[u8]) -> u32 {
     0
 }
 
+// The number of the question to a map, or 0.
 fn question_of(line: &[u8]) -> u32 {
     if behind_word(line, b"map_sound ") != NONE {
         return 8;

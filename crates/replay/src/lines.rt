@@ -27,7 +27,7 @@ fn name(line: &[u8]) -> bool {
     true
 }
 
-// The name of the call.
+// Writes the name of the call.
 fn title(line: &[u8]) {
     let end = place_of(line, 0, b' ');
     output::text(&line[..end]);

@@ -10,6 +10,7 @@ fn fit(buffer: &[u8], n: usize) -> usize
     if n <= buffer.len() { n } else { 0 }
 }
 
+// The call with buffers of their lengths.
 fn made(
     call: u32,
     numbers: [usize; 9],
