@@ -1,12 +1,18 @@
 """An independent second program: the rules of paper 01 in Python, written from the paper and not from the specs.
 
-It makes the expected output of the programs of cases (see cases.py). Nothing of the product depends on it.
+It makes the expected output of the program replay (see replay.py). Nothing of the product depends on it.
+
+An answer is a tuple: a word and its values.
+  ('refused', number, place)
+  a load: ('end', place, taken, stored), ('unknown', command, place, taken, stored), ('run', kind, address, resume, taken, stored)
+  a packet: ('silent',), ('response', size), ('run asked', kind, address), ('run loaded', kind, address, resume)
+  a plan that was read or packed: ('size', pieces or bytes)
 """
 
 
 class Refused(Exception):
     def __init__(self, number, place=0):
-        self.number, self.place = number, place
+        self.answer = 'refused', number, place
 
 
 # ---- Memory map
@@ -27,7 +33,8 @@ def overlap(a, b):
 
 
 def rules_hold(regions):
-    if len(regions) > 8:
+    """Whether the regions may stand in one map; None is what no map can be."""
+    if regions is None or len(regions) > 8:
         return False
     for i, r in enumerate(regions):
         if r.base % 4 or r.length % 4 or not 4 <= r.length <= 16777216 or r.base + r.length > 4294967280:
@@ -69,7 +76,7 @@ def run_kind(regions, address):
 # ---- Serial ROM
 
 def srom_load(regions, memory, rom, offset):
-    """The answer as text; memory (a bytearray) is changed only by an accepted load."""
+    """The answer; memory (a bytearray) is changed only by an accepted load."""
     try:
         if not sound(regions, len(memory)):
             raise Refused(1)
@@ -82,7 +89,7 @@ def srom_load(regions, memory, rom, offset):
             if at >= len(rom):
                 raise Refused(2, len(rom))
             if rom[at] != 0x3a:
-                stop = 'end at %d' % at
+                stop = 'end', at
                 break
             if at + 7 > len(rom):
                 raise Refused(2, at)
@@ -93,7 +100,7 @@ def srom_load(regions, memory, rom, offset):
                 kind = run_kind(regions, address)
                 if kind is None:
                     raise Refused(9, at)
-                stop = 'run %s %d, resume %d' % (kind, address, after)
+                stop = 'run', kind, address, after
                 break
             if address % 4:
                 raise Refused(3, at)
@@ -105,19 +112,19 @@ def srom_load(regions, memory, rom, offset):
             stores.append((place, [int.from_bytes(rom[k:k + 4], 'big') for k in range(at + 7, after, 4)]))
             at = after
     except Refused as r:
-        return 'refused %d at %d' % (r.number, r.place)
+        return r.answer
     count = 0
     for place, words in stores:
         for k, word in enumerate(words):
             memory[place + 4 * k:place + 4 * k + 4] = word.to_bytes(4, 'little')
             count += 4
-    return '%s, taken %d, stored %d' % (stop, len(stores), count)
+    return stop + (len(stores), count)
 
 
 # ---- APLX
 
 def aplx_load(regions, memory, header):
-    """The answer as text; memory (a bytearray) is changed only by an accepted load."""
+    """The answer; memory (a bytearray) is changed only by an accepted load."""
     def word(place):
         return int.from_bytes(memory[place:place + 4], 'little')
 
@@ -160,10 +167,10 @@ def aplx_load(regions, memory, header):
                 kind = run_kind(regions, x)
                 if kind is None:
                     raise Refused(9, index)
-                stop = 'run %s %d, resume %d' % (kind, x, address + 16)
+                stop = 'run', kind, x, address + 16
                 break
             else:
-                stop = 'end at %d' % index if command == 0xffffffff else 'unknown %d at %d' % (command, index)
+                stop = ('end', index) if command == 0xffffffff else ('unknown', command, index)
                 break
         if stop is None:
             raise Refused(7, 256)
@@ -172,35 +179,35 @@ def aplx_load(regions, memory, header):
             if overlap(destination, read):
                 raise Refused(8, index)
     except Refused as r:
-        return 'refused %d at %d' % (r.number, r.place)
+        return r.answer
     count = 0
     for destination, to, start, fill in actions:
         for k in range(0, len(destination), 4):
             value = fill if start is None else word(start + k)
             memory[to + k:to + k + 4] = value.to_bytes(4, 'little')
             count += 4
-    return '%s, taken %d, stored %d' % (stop, len(actions), count)
+    return stop + (len(actions), count)
 
 
 # ---- SCP
 
 def scp_answer(regions, memory, identity, packet, output):
-    """The reply as text; memory and output (bytearrays) are changed as the packet asks."""
+    """The answer; memory and output (bytearrays) are changed as the packet asks."""
     def word(at):
         return int.from_bytes(packet[at:at + 4], 'little')
 
     def reply(code, rest=b''):
         response = code.to_bytes(2, 'little') + bytes(packet[2:4]) + rest
         output[:len(response)] = response
-        return 'response of %d' % len(response)
+        return 'response', len(response)
 
     ok, length_error, command_error, argument_error = 0x80, 0x81, 0x83, 0x84
     if len(output) < 272:
-        return 'refused 10 at 0'
+        return 'refused', 10, 0
     if not sound(regions, len(memory)):
-        return 'refused 1 at 0'
+        return 'refused', 1, 0
     if len(packet) < 4:
-        return 'no response'
+        return ('silent',)
     if len(packet) > 272:
         return reply(length_error)
     command = int.from_bytes(packet[0:2], 'little')
@@ -214,13 +221,13 @@ def scp_answer(regions, memory, identity, packet, output):
         return reply(ok, b''.join(n.to_bytes(4, 'little') for n in numbers) + b'SARK/SpiNNaker\0')
     if command == 1:
         kind = run_kind(regions, word(4))
-        return reply(argument_error) if kind is None else 'run %s %d' % (kind, word(4))
+        return reply(argument_error) if kind is None else ('run asked', kind, word(4))
     if command == 4:
         answer = aplx_load(regions, memory, word(4))
-        if answer.startswith('refused'):
+        if answer[0] == 'refused':
             return reply(argument_error)
-        if answer.startswith('run'):
-            return answer.split(', taken')[0]
+        if answer[0] == 'run':
+            return ('run loaded',) + answer[1:4]
         return reply(ok)
     address, size, kind = word(4), word(8), word(12)
     if size > 256 or kind > 2:
@@ -284,8 +291,16 @@ def read_plan(plan, unit):
     return pieces
 
 
+def plan_read(plan, unit):
+    """The answer: how many pieces there are."""
+    try:
+        return 'size', len(read_plan(plan, unit))
+    except Refused as r:
+        return r.answer
+
+
 def pack_srom(plan, output):
-    """The answer as text; the image at the output's front."""
+    """The answer; the image at the output's front."""
     try:
         pieces = read_plan(plan, 4)
         image = bytearray(b'\x55')
@@ -298,13 +313,13 @@ def pack_srom(plan, output):
         if len(image) > len(output):
             raise Refused(10, len(pieces))
     except Refused as r:
-        return 'refused %d at %d' % (r.number, r.place)
+        return r.answer
     output[:len(image)] = image
-    return 'packed %d' % len(image)
+    return 'size', len(image)
 
 
 def pack_aplx(plan, output):
-    """The answer as text; the image at the output's front."""
+    """The answer; the image at the output's front."""
     try:
         pieces = read_plan(plan, 32)
         entries, data = bytearray(), bytearray()
@@ -323,9 +338,9 @@ def pack_aplx(plan, output):
         if len(image) > len(output):
             raise Refused(10, len(pieces))
     except Refused as r:
-        return 'refused %d at %d' % (r.number, r.place)
+        return r.answer
     output[:len(image)] = image
-    return 'packed %d' % len(image)
+    return 'size', len(image)
 
 
 def converted(pack, plan):
@@ -334,9 +349,9 @@ def converted(pack, plan):
         return b'refused 11 at 0\n'
     output = bytearray(65536)
     answer = pack(plan, output)
-    if answer.startswith('refused'):
-        return answer.encode() + b'\n'
-    return bytes(output[:int(answer.split()[1])])
+    if answer[0] == 'refused':
+        return b'refused %d at %d\n' % answer[1:]
+    return bytes(output[:answer[1]])
 
 
 def plan_to_aplx(plan):

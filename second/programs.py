@@ -61,15 +61,9 @@ files = {
 }
 
 
-def shown(data):
-    """A refusal as it stands, an image as hex, 32 bytes to a line."""
-    if data.startswith(b'refused '):
-        return data
-    return b''.join(data[k:k + 32].hex().encode() + b'\n' for k in range(0, len(data), 32))
-
-
 def case(name, medium, data):
-    return b'%s, %s: %d bytes\n' % (name.encode(), medium, len(data)) + shown(data)
+    """A title with the number of bytes, and the bytes as they stand."""
+    return b'%s, %s: %d bytes\n%s\n' % (name.encode(), medium, len(data), data)
 
 
 cases = b''.join(case(name, b'APLX', plan_to_aplx(s)) + case(name, b'SROM', plan_to_srom(s)) for name, s in files.items())

@@ -15,6 +15,7 @@ pub mod scp;
 pub mod series;
 pub mod srom;
 pub mod tally;
+pub mod text;
 
 #[cfg(test)]
 mod tests;

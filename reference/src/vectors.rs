@@ -1,29 +1,22 @@
-//! Writes stored vectors for a Rattle program: `vectors DIR` writes DIR/stdin and DIR/stdout.
-//!
-//! DIR/stdin is a stream of records. A record is one call: a byte for its kind (1 map_add, 2 srom_load,
-//! 3 aplx_load, 4 scp_answer, 5 plan_read, 6 pack_srom, 7 pack_aplx), then its arguments in the order of the
-//! interface: a number as 8 bytes Little Endian, a slice as its length in 4 bytes Little Endian and its bytes,
-//! an output buffer by its bytes before the call; the outcome array is no argument of a record. A sequence of
-//! additions is a row of map_add records, each with the table that the one before it left.
-//!
-//! DIR/stdout has for each record: a line with the kind's name and the record's number, counted from 0; a line with
-//! the returned number and the eight outcome numbers (map_add: the returned number only); and for each buffer that
-//! the call may change a line with its bytes in hex: the table, or memory, then the output.
+//! Writes the stored vectors: `vectors FILE` writes FILE, the calls of crates/replay/data/vectors, each with its number as its name.
+//! The head of crates/replay/data/cases says how a call is written. A sequence of additions is a row of map_add calls, each with the table
+//! that the one before it left.
 
 use std::fs;
-use std::path::Path;
 use std::process::exit;
 
-use reference::bytes::{hex, unhex};
+use reference::bytes::unhex;
 use reference::generate::{case_of, Call, Case, Size};
 use reference::interface::{table_of, Library, Outcome, Reference};
 use reference::map::{Map, Region, Rights};
 use reference::random::Random;
 use reference::scp::Identity;
 use reference::tally::{load_kind, number_kind, reply_kind, required, Tally};
+use reference::text::write_bytes;
 
 const SEED: u64 = 6_122_011;
-const MOST_INPUT: usize = 500_000;
+/// More would not fit into the program that replays them.
+const MOST_TEXT: usize = 1_000_000;
 const MOST_MEMORY: usize = 512;
 /// Records of one call that come to the same thing.
 const ALIKE: u64 = 7;
@@ -40,44 +33,36 @@ fn beyond(call: &str, what: &str) -> bool {
 }
 
 #[derive(Default)]
-struct Streams {
-    input: Vec<u8>,
-    expected: String,
+struct Vectors {
+    text: String,
     records: u64,
     tally: Tally,
 }
 
-/// The arguments of one record.
+/// The text of one call.
 struct Record {
-    bytes: Vec<u8>,
+    text: String,
 }
 
 impl Record {
-    fn new(kind: u8) -> Record {
-        Record { bytes: vec![kind] }
+    fn new(name: &str) -> Record {
+        Record { text: name.to_string() }
     }
 
     fn number(mut self, number: u64) -> Record {
-        self.bytes.extend(number.to_le_bytes());
+        self.text += &format!(" {number}");
         self
     }
 
     fn slice(mut self, slice: &[u8]) -> Record {
-        self.bytes.extend((slice.len() as u32).to_le_bytes());
-        self.bytes.extend(slice);
+        self.text += &format!(" {}", write_bytes(slice));
         self
     }
 }
 
-impl Streams {
-    fn write(&mut self, record: Record, name: &str, numbers: &[u64], buffers: &[&[u8]]) {
-        self.input.extend(record.bytes);
-        self.expected.push_str(&format!("{name} {}\n", self.records));
-        let numbers: Vec<String> = numbers.iter().map(u64::to_string).collect();
-        self.expected.push_str(&format!("{}\n", numbers.join(" ")));
-        for buffer in buffers {
-            self.expected.push_str(&format!("{}\n", hex(buffer)));
-        }
+impl Vectors {
+    fn write(&mut self, record: Record) {
+        self.text += &format!(": vector {}\n{}\n", self.records, record.text);
         self.records += 1;
     }
 
@@ -93,18 +78,13 @@ impl Streams {
     /// Adds the records of a case; `always`: also where many are alike.
     fn add(&mut self, case: &Case, always: bool) {
         let mut outcome: Outcome = [0; 8];
-        let all = |number: u32, outcome: &Outcome| {
-            let mut numbers = vec![u64::from(number)];
-            numbers.extend(outcome);
-            numbers
-        };
         match case {
             Case::MapAdd { table, additions } => {
                 let mut table = table.clone();
                 let mut records = Vec::new();
                 let mut wanted = always;
                 for [base, length, place, rights] in additions.iter().copied() {
-                    let record = Record::new(1)
+                    let record = Record::new("map_add")
                         .slice(&table)
                         .number(u64::from(base))
                         .number(u64::from(length))
@@ -112,38 +92,38 @@ impl Streams {
                         .number(u64::from(rights));
                     let number = Reference.map_add(&mut table, base, length, place, rights);
                     wanted |= self.wants("map_add", number_kind(u64::from(number)));
-                    records.push((record, number, table.clone()));
+                    records.push(record);
                 }
                 if wanted {
-                    for (record, number, after) in records {
-                        self.write(record, "map_add", &[u64::from(number)], &[&after]);
+                    for record in records {
+                        self.write(record);
                     }
                 }
             }
             Case::SromLoad { table, memory, rom, offset } => {
                 let mut after = memory.clone();
-                let number = Reference.srom_load(table, &mut after, rom, *offset, &mut outcome);
+                Reference.srom_load(table, &mut after, rom, *offset, &mut outcome);
                 if self.wants("srom_load", load_kind(&outcome)) || always {
                     let record =
-                        Record::new(2).slice(table).slice(memory).slice(rom).number(*offset as u64);
-                    self.write(record, "srom_load", &all(number, &outcome), &[&after]);
+                        Record::new("srom_load").slice(table).slice(memory).slice(rom).number(*offset as u64);
+                    self.write(record);
                 }
             }
             Case::AplxLoad { table, memory, header } => {
                 let mut after = memory.clone();
-                let number = Reference.aplx_load(table, &mut after, *header, &mut outcome);
+                Reference.aplx_load(table, &mut after, *header, &mut outcome);
                 if self.wants("aplx_load", load_kind(&outcome)) || always {
-                    let record = Record::new(3).slice(table).slice(memory).number(u64::from(*header));
-                    self.write(record, "aplx_load", &all(number, &outcome), &[&after]);
+                    let record = Record::new("aplx_load").slice(table).slice(memory).number(u64::from(*header));
+                    self.write(record);
                 }
             }
             Case::ScpAnswer { table, memory, identity, packet, output } => {
                 let (mut after, mut answered) = (memory.clone(), output.clone());
-                let number = Reference.scp_answer(
+                Reference.scp_answer(
                     table, &mut after, *identity, packet, &mut answered, &mut outcome,
                 );
                 if self.wants("scp_answer", reply_kind(&outcome, packet, &answered)) || always {
-                    let record = Record::new(4)
+                    let record = Record::new("scp_answer")
                         .slice(table)
                         .slice(memory)
                         .number(u64::from(identity.point_to_point))
@@ -153,35 +133,35 @@ impl Streams {
                         .number(u64::from(identity.date))
                         .slice(packet)
                         .slice(output);
-                    self.write(record, "scp_answer", &all(number, &outcome), &[&after, &answered]);
+                    self.write(record);
                 }
             }
             Case::PlanRead { plan, target } => {
-                let number = Reference.plan_read(plan, *target, &mut outcome);
+                Reference.plan_read(plan, *target, &mut outcome);
                 let call = match target {
                     0 => "plan_read 0",
                     1 => "plan_read 1",
                     _ => "plan_read +",
                 };
                 if self.wants(call, number_kind(outcome[0])) || always {
-                    let record = Record::new(5).slice(plan).number(u64::from(*target));
-                    self.write(record, "plan_read", &all(number, &outcome), &[]);
+                    let record = Record::new("plan_read").slice(plan).number(u64::from(*target));
+                    self.write(record);
                 }
             }
             Case::PackSrom { plan, output } => {
                 let mut after = output.clone();
-                let number = Reference.pack_srom(plan, &mut after, &mut outcome);
+                Reference.pack_srom(plan, &mut after, &mut outcome);
                 if self.wants("pack_srom", number_kind(outcome[0])) || always {
-                    let record = Record::new(6).slice(plan).slice(output);
-                    self.write(record, "pack_srom", &all(number, &outcome), &[&after]);
+                    let record = Record::new("pack_srom").slice(plan).slice(output);
+                    self.write(record);
                 }
             }
             Case::PackAplx { plan, output } => {
                 let mut after = output.clone();
-                let number = Reference.pack_aplx(plan, &mut after, &mut outcome);
+                Reference.pack_aplx(plan, &mut after, &mut outcome);
                 if self.wants("pack_aplx", number_kind(outcome[0])) || always {
-                    let record = Record::new(7).slice(plan).slice(output);
-                    self.write(record, "pack_aplx", &all(number, &outcome), &[&after]);
+                    let record = Record::new("pack_aplx").slice(plan).slice(output);
+                    self.write(record);
                 }
             }
             Case::Series { .. } => {}
@@ -276,13 +256,13 @@ fn memory_length(case: &Case) -> usize {
 
 fn main() {
     let arguments: Vec<String> = std::env::args().skip(1).collect();
-    let [folder] = arguments.as_slice() else {
-        eprintln!("usage: vectors DIR");
+    let [file] = arguments.as_slice() else {
+        eprintln!("usage: vectors FILE");
         exit(2)
     };
-    let mut streams = Streams::default();
+    let mut vectors = Vectors::default();
     for case in weighed() {
-        streams.add(&case, true);
+        vectors.add(&case, true);
     }
     let mut random = Random::new(SEED);
     for call in [
@@ -297,27 +277,19 @@ fn main() {
         for drawn in 0..DRAWN {
             let case = case_of(call, &mut random, Size::Stored);
             assert!(memory_length(&case) <= MOST_MEMORY);
-            streams.add(&case, drawn < 12);
+            vectors.add(&case, drawn < 12);
         }
     }
-    let mut missing = streams.tally.missing(&required());
+    let mut missing = vectors.tally.missing(&required());
     missing.retain(|(call, what)| !beyond(call, what));
-    if !missing.is_empty() || streams.input.len() > MOST_INPUT {
-        println!("FAILED: {} bytes; did not occur: {missing:?}", streams.input.len());
+    if !missing.is_empty() || vectors.text.len() > MOST_TEXT {
+        println!("FAILED: {} bytes; did not occur: {missing:?}", vectors.text.len());
         exit(1);
     }
-    let folder = Path::new(folder);
-    let written = fs::create_dir_all(folder)
-        .and_then(|()| fs::write(folder.join("stdin"), &streams.input))
-        .and_then(|()| fs::write(folder.join("stdout"), &streams.expected));
-    if let Err(error) = written {
-        eprintln!("{}: {error}", folder.display());
+    let head = "# Calls that the reference writes (reference/vectors). The head of the file `cases` says how they are written.\n";
+    if let Err(error) = fs::write(file, format!("{head}{}", vectors.text)) {
+        eprintln!("{file}: {error}");
         exit(1);
     }
-    println!(
-        "{} records: {} bytes of input, {} bytes of answers",
-        streams.records,
-        streams.input.len(),
-        streams.expected.len()
-    );
+    println!("{} calls", vectors.records);
 }

@@ -43,7 +43,7 @@ fn region_in(table: &[u8], at: usize) -> Region
 }
 
 // The map that a table is; one of another length is no sound map.
-pub(crate) fn map_of(table: &[u8]) -> Map
+pub fn map_of(table: &[u8]) -> Map
     ensures { λ r. ⌜ r ≡ mapOf (now (table .entry)) ⌝ }
 {
     if table.len() != 132 {

@@ -1,10 +1,11 @@
 //! Tests of the reference: the paper's pieces with known weight, the slips seen on the bench, each refusal number,
-//! and the series of demand 3.
+//! the series of demand 3, and calls as text.
 
 mod loads;
 mod maps;
 mod plans;
 mod slips;
+mod text;
 mod weighed;
 
 use crate::map::{Map, Region, Rights};

@@ -1,0 +1,55 @@
+//! Calls as text: what is written is read again, and what is no call is refused.
+
+use crate::text::{read_call, write_bytes, Buffers};
+
+fn numbers(line: &str) -> Option<Vec<u64>> {
+    read_call(line, &mut Buffers::default()).map(|(_, numbers)| numbers)
+}
+
+#[test]
+fn a_byte_string_is_read_as_it_was_written() {
+    let mut bytes = vec![1, 2, 2, 2, 2, 2, 2, 2];
+    bytes.extend([7; 300]);
+    bytes.push(9);
+    for length in [0, 1, 8, 15, 16, 300, bytes.len()] {
+        let mut buffers = Buffers::default();
+        let line = format!("plan_read {} 2", write_bytes(&bytes[..length]));
+        assert!(read_call(&line, &mut buffers).is_some(), "{line}");
+        assert_eq!(buffers.input, bytes[..length]);
+    }
+    assert_eq!(write_bytes(&[]), "x");
+    assert_eq!(write_bytes(&[3, 7, 7, 7, 7, 7, 7, 7, 7, 1]), "x03+x07*8+x01");
+}
+
+#[test]
+fn a_buffer_is_kept() {
+    let mut buffers = Buffers::default();
+    assert!(read_call("pack_srom x0102 xee*3", &mut buffers).is_some());
+    buffers.output[0] = 0x55;
+    assert!(read_call("pack_aplx = =", &mut buffers).is_some());
+    assert_eq!((buffers.input, buffers.output), (vec![1, 2], vec![0x55, 0xee, 0xee]));
+}
+
+#[test]
+fn what_is_no_call_is_refused() {
+    assert_eq!(numbers("map_sound x 18446744073709551615"), Some(vec![u64::MAX]));
+    for line in [
+        "map_sound x 18446744073709551616",
+        "map_sound x",
+        "map_sound x 1 2",
+        "map_sound  x 1",
+        "map_sounds x 1",
+        "map_sound x0 1",
+        "map_sound xAB 1",
+        "map_sound 00 1",
+        "map_sound x00+ 1",
+        "map_sound =+x00 1",
+        "map_sound x00*0 1",
+        "map_sound x00*8193 1",
+        "map_sound x +1",
+        "run_entry x 4294967296",
+        "plan_read x -1",
+    ] {
+        assert_eq!(numbers(line), None, "{line}");
+    }
+}

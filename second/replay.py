@@ -1,0 +1,209 @@
+#!/usr/bin/env python3
+"""What crates/replay must write, by the rules in model.py: the calls of its two data files, one after the other.
+
+replay.py write: stores it as crates/replay/stdout.
+replay.py: fails where the stored file is another.
+
+The head of crates/replay/data/cases says how a call is written and what is written for it. `=` is the buffer of the same
+kind (table, memory, output, input) as the last call of the file left it.
+"""
+import re
+import sys
+import pathlib
+
+import model
+
+REPLAY = pathlib.Path(__file__).resolve().parent.parent / 'crates' / 'replay'
+LONGEST = 8192
+
+# The arguments of each call: a kind of buffer, or the largest number.
+WORD, LONG = 2 ** 32 - 1, 2 ** 64 - 1
+CALLS = {
+    'map_add': ('table', WORD, WORD, WORD, WORD),
+    'srom_load': ('table', 'memory', 'input', LONG),
+    'aplx_load': ('table', 'memory', WORD),
+    'scp_answer': ('table', 'memory', 65535, 255, 255, 65535, WORD, 'input', 'output'),
+    'plan_read': ('input', WORD),
+    'pack_srom': ('input', 'output'),
+    'pack_aplx': ('input', 'output'),
+    'map_sound': ('table', LONG),
+    'lookup': ('table', 4, WORD, LONG),
+    'run_entry': ('table', WORD),
+}
+
+
+class NoCall(Exception):
+    pass
+
+
+# ---- a map as a table of bytes
+
+def regions_of(table):
+    """The regions of a table; None where it is no map of at most 8."""
+    count = int.from_bytes(table[:4], 'little')
+    if len(table) != 132 or count > 8:
+        return None
+    regions = []
+    for at in range(4, 4 + 16 * count, 16):
+        base, length, place, rights = (int.from_bytes(table[k:k + 4], 'little') for k in range(at, at + 16, 4))
+        regions.append(model.Region(base, length, place, rights_of(rights)))
+    return regions
+
+
+def rights_of(number):
+    return ''.join(right for k, right in enumerate('rwx') if number >> k & 1)
+
+
+def map_add(table, base, length, place, rights):
+    regions = regions_of(table)
+    if regions is None or not model.add(regions, model.Region(base, length, place, rights_of(rights)))[1]:
+        return [1]
+    at = 4 + 16 * len(regions)
+    table[at:at + 16] = b''.join(n.to_bytes(4, 'little') for n in (base, length, place, rights % 8))
+    table[:4] = (len(regions) + 1).to_bytes(4, 'little')
+    # the table is written anew: the higher bits of the rights are 0 in all eight regions
+    for at in range(16, 132, 16):
+        table[at:at + 4] = bytes([table[at] % 8, 0, 0, 0])
+    return [0]
+
+
+# ---- answers as numbers
+
+KIND = {'ARM': 1, 'Thumb': 2}
+
+
+def numbers(answer):
+    """The returned number and the eight numbers of the outcome, of a value that model.py answers."""
+    outcome = {
+        'refused': lambda number, place: [number, place],
+        'end': lambda place, taken, stored: [0, place, 1, 0, 0, taken, stored],
+        'unknown': lambda command, place, taken, stored: [0, place, 2, command, 0, taken, stored],
+        'run': lambda kind, address, resume, taken, stored: [0, 0, 2 + KIND[kind], address, resume, taken, stored],
+        'silent': lambda: [],
+        'response': lambda size: [0, 0, 1, size],
+        'run asked': lambda kind, address: [0, 0, 2, 0, KIND[kind], address],
+        'run loaded': lambda kind, address, resume: [0, 0, 3, 0, KIND[kind], address, resume],
+        'size': lambda size: [0, 0, size],
+    }[answer[0]](*answer[1:])
+    outcome += [0] * (8 - len(outcome))
+    return [outcome[0]] + outcome
+
+
+# ---- the calls, each over its arguments; the buffers are bytearrays
+
+def srom_load(table, memory, rom, offset):
+    return numbers(model.srom_load(regions_of(table), memory, rom, offset))
+
+
+def aplx_load(table, memory, header):
+    return numbers(model.aplx_load(regions_of(table), memory, header))
+
+
+def scp_answer(table, memory, node, physical, virtual, version, date, packet, output):
+    identity = node, physical, virtual, version, date
+    return numbers(model.scp_answer(regions_of(table), memory, identity, packet, output))
+
+
+def plan_read(plan, target):
+    return numbers(model.plan_read(plan, {0: 32, 1: 4}.get(target, 1)))
+
+
+def pack_srom(plan, output):
+    return numbers(model.pack_srom(plan, output))
+
+
+def pack_aplx(plan, output):
+    return numbers(model.pack_aplx(plan, output))
+
+
+def map_sound(table, size):
+    return [0 if model.sound(regions_of(table), size) else 1]
+
+
+def lookup(table, right, address, length):
+    if right not in (1, 2, 4):
+        raise NoCall
+    place = model.permitted(regions_of(table) or [], rights_of(right), address, length)
+    return [4, 0] if place is None else [0, place]
+
+
+def run_entry(table, address):
+    kind = model.run_kind(regions_of(table) or [], address)
+    return [9, 0, 0] if kind is None else [0, KIND[kind], address]
+
+
+# ---- the text
+
+def number(text, most):
+    if not re.fullmatch('[0-9]+', text) or int(text) > most:
+        raise NoCall
+    return int(text)
+
+
+def byte_string(text, kept):
+    if text == '=':
+        return bytearray(kept)
+    out = bytearray()
+    for part in text.split('+'):
+        found = re.fullmatch(r'x((?:[0-9a-f]{2})*)(?:\*([0-9]+))?', part)
+        times = 1 if not found or found[2] is None else int(found[2])
+        if not found or not 1 <= times <= 65536:
+            raise NoCall
+        out += bytes.fromhex(found[1]) * times
+    if len(out) > LONGEST:
+        raise NoCall
+    return out
+
+
+def call(line, kept):
+    """The lines that are written for a call; kept has the buffers as the last call left them."""
+    name, *words = line.split(' ')
+    if name not in CALLS or len(words) != len(CALLS[name]):
+        raise NoCall
+    arguments = []
+    for word, kind in zip(words, CALLS[name]):
+        if isinstance(kind, int):
+            arguments.append(number(word, kind))
+        else:
+            kept[kind] = byte_string(word, kept.get(kind, b''))
+            arguments.append(kept[kind])
+    answer = globals()[name](*arguments)
+    changed = {'map_add': ['table'], 'srom_load': ['memory'], 'aplx_load': ['memory'], 'scp_answer': ['memory', 'output'],
+               'pack_srom': ['output'], 'pack_aplx': ['output']}.get(name, [])
+    return [name, ' '.join(map(str, answer))] + [kept[kind].hex() for kind in changed]
+
+
+def replay(text):
+    """What is written for a file, and whether every line was one."""
+    out, kept = '', {}
+    for count, line in enumerate(text.split('\n'), 1):
+        if line == '' or line.startswith('#'):
+            continue
+        if line.startswith(': '):
+            out += line[2:] + ': '
+            continue
+        try:
+            out += '\n'.join(call(line, kept)) + '\n'
+        except NoCall:
+            return out + 'not a call: line %d\n' % count, False
+    return out, True
+
+
+def main():
+    expected = ''
+    for name in 'cases', 'vectors':
+        out, whole = replay((REPLAY / 'data' / name).read_text())
+        expected += out
+        if not whole:
+            print('data/%s: %s' % (name, out.splitlines()[-1]))
+            return 1
+    path = REPLAY / 'stdout'
+    if sys.argv[1:] == ['write']:
+        path.write_text(expected)
+    elif path.read_text() != expected:
+        print('%s: not what the second program writes' % path)
+        return 1
+    return 0
+
+
+sys.exit(main())
