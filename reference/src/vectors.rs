@@ -1,6 +1,6 @@
-//! Writes the stored vectors: `vectors FILE` writes FILE, the calls of crates/replay/data/vectors, each with its number as its name.
-//! The head of crates/replay/data/cases says how a call is written. A sequence of additions is a row of map_add calls, each with the table
-//! that the one before it left.
+//! Writes the stored vectors: `vectors FILE` writes FILE, the calls of crates/replay/data/vectors, each with its
+//! number as its name. The head of crates/replay/data/cases says how a call is written. A sequence of additions is
+//! a row of map_add calls, each with the table that the one before it left.
 
 use std::fs;
 use std::process::exit;
@@ -14,6 +14,9 @@ use reference::scp::Identity;
 use reference::tally::{load_kind, number_kind, reply_kind, required, Tally};
 use reference::text::write_bytes;
 
+/// The first line of the file.
+const HEAD: &str = "# Calls that the reference writes (reference/vectors). The head of the file `cases` says how they are \
+                    written.\n";
 const SEED: u64 = 6_122_011;
 /// More would not fit into the program that replays them.
 const MOST_TEXT: usize = 1_000_000;
@@ -286,8 +289,7 @@ fn main() {
         println!("FAILED: {} bytes; did not occur: {missing:?}", vectors.text.len());
         exit(1);
     }
-    let head = "# Calls that the reference writes (reference/vectors). The head of the file `cases` says how they are written.\n";
-    if let Err(error) = fs::write(file, format!("{head}{}", vectors.text)) {
+    if let Err(error) = fs::write(file, format!("{HEAD}{}", vectors.text)) {
         eprintln!("{file}: {error}");
         exit(1);
     }
