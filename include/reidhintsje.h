@@ -1,4 +1,4 @@
-/* Reidhintsje for C: link with target/staticlib/libc_api.a, which `rt staticlib c_api` makes (x86-64 Linux).
+/* Reidhintsje for C: link with target/staticlib/libreidhintsje.a, which `rt staticlib reidhintsje` makes (x86-64 Linux).
  *
  * Every call is proved to stay inside the buffers that it is lent, to end, and to answer for any bytes and any numbers. The proof takes
  * for granted what a C caller must see to:

@@ -29,7 +29,7 @@ pub(crate) fn map_add(s: &[u8], at: usize, record: u64, map: &mut [u8]) -> usize
     let length = word_at(s, length_at);
     let place = word_at(s, place_at);
     let rights = word_at(s, rights_at);
-    let number = c_api::table::reidhintsje_map_add(&mut map[..n], base, length, place, rights);
+    let number = reidhintsje::table::reidhintsje_map_add(&mut map[..n], base, length, place, rights);
     title(b"map_add", record);
     returned(number);
     tell::front(map, n);
@@ -49,7 +49,7 @@ pub(crate) fn srom_load(s: &[u8], at: usize, record: u64, memory: &mut [u8]) -> 
     let rom = slice_at(s, rom_at);
     let offset = number_at(s, offset_at);
     let mut outcome = [0u64; 8];
-    let number = c_api::load::reidhintsje_srom_load(
+    let number = reidhintsje::load::reidhintsje_srom_load(
         map,
         &mut memory[..n],
         rom,
@@ -73,7 +73,7 @@ pub(crate) fn aplx_load(s: &[u8], at: usize, record: u64, memory: &mut [u8]) -> 
     let map = slice_at(s, at);
     let header = word_at(s, header_at);
     let mut outcome = [0u64; 8];
-    let number = c_api::load::reidhintsje_aplx_load(map, &mut memory[..n], header, &mut outcome);
+    let number = reidhintsje::load::reidhintsje_aplx_load(map, &mut memory[..n], header, &mut outcome);
     title(b"aplx_load", record);
     numbers(number, outcome);
     tell::front(memory, n);
@@ -95,7 +95,7 @@ fn answer(
     let version_at = past_number(s, virtual_at);
     let date_at = past_number(s, version_at);
     let mut outcome = [0u64; 8];
-    let number = c_api::packet::reidhintsje_scp_answer(
+    let number = reidhintsje::packet::reidhintsje_scp_answer(
         map,
         memory,
         half_at(s, at),

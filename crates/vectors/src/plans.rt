@@ -19,7 +19,7 @@ pub(crate) fn plan_read(s: &[u8], at: usize, record: u64) -> usize {
     let plan = slice_at(s, at);
     let target = word_at(s, target_at);
     let mut outcome = [0u64; 8];
-    let number = c_api::plans::reidhintsje_plan_read(plan, target, &mut outcome);
+    let number = reidhintsje::plans::reidhintsje_plan_read(plan, target, &mut outcome);
     title(b"plan_read", record);
     numbers(number, outcome);
     end
@@ -34,7 +34,7 @@ pub(crate) fn pack_srom(s: &[u8], at: usize, record: u64, output: &mut [u8]) -> 
     let n = copy(output, slice_at(s, output_at));
     let plan = slice_at(s, at);
     let mut outcome = [0u64; 8];
-    let number = c_api::plans::reidhintsje_pack_srom(plan, &mut output[..n], &mut outcome);
+    let number = reidhintsje::plans::reidhintsje_pack_srom(plan, &mut output[..n], &mut outcome);
     title(b"pack_srom", record);
     numbers(number, outcome);
     tell::front(output, n);
@@ -50,7 +50,7 @@ pub(crate) fn pack_aplx(s: &[u8], at: usize, record: u64, output: &mut [u8]) -> 
     let n = copy(output, slice_at(s, output_at));
     let plan = slice_at(s, at);
     let mut outcome = [0u64; 8];
-    let number = c_api::plans::reidhintsje_pack_aplx(plan, &mut output[..n], &mut outcome);
+    let number = reidhintsje::plans::reidhintsje_pack_aplx(plan, &mut output[..n], &mut outcome);
     title(b"pack_aplx", record);
     numbers(number, outcome);
     tell::front(output, n);
