@@ -1,5 +1,6 @@
--- Outcomes as eight numbers, for a caller that takes no enum. What a case does not name is 0.
+-- Outcomes as eight numbers, for a caller that takes no enum: one layout for every call. What a case does not name is 0.
 pub mod Laws
+pub mod Injective
 use mathlib.Core.List.{List, [], _∷_}
 use Prim.Native.Nat.{ℕ}
 use lib.Dec.{eqb}
@@ -10,61 +11,110 @@ use Rattle.outcome.specs.Outcome.{Kind, arm, thumb, end, unknown, run}
 use Rattle.plan.specs.Code as read
 use Rattle.plan.specs.Packed as packed
 use Rattle.scp.specs.Answer as scp
-use Rattle.scp.specs.declared.answer.Identity.{Identity}
+use Rattle.reidhintsje.specs.declared.numbers.Parts.{Parts}
+
+-- ---- the layout
+-- the eight numbers, from their parts
+abbrev pub numbers : Parts → List ℕ
+numbers x = x .refusal ∷ x .place ∷ x .event ∷ x .kind ∷ x .address ∷ x .resume ∷ x .items ∷ x .bytes ∷ []
 
 -- the first number, which is what the call returns: the number of the refusal, or 0
 abbrev pub first : List ℕ → ℕ
 first l = getD l 0 0
 
--- a refusal: its number and its place
-abbrev pub refusalNumbers : ℕ → ℕ → List ℕ
-refusalNumbers n p = n ∷ p ∷ 0 ∷ 0 ∷ 0 ∷ 0 ∷ 0 ∷ 0 ∷ []
+-- what happened: nothing was changed
+abbrev pub REFUSED : ℕ
+REFUSED = 0
 
--- a count or a length
-abbrev pub countNumbers : ℕ → List ℕ
-countNumbers k = 0 ∷ 0 ∷ k ∷ 0 ∷ 0 ∷ 0 ∷ 0 ∷ 0 ∷ []
+-- a load came to its end
+abbrev pub END : ℕ
+END = 1
 
--- ---- loads: [2] the stop, 1 end, 2 unknown, 3 run ARM, 4 run Thumb
-abbrev pub stopNumber : Kind → ℕ
-stopNumber arm = 3
-stopNumber thumb = 4
+-- a load stopped at an unknown command word
+abbrev pub UNKNOWN : ℕ
+UNKNOWN = 2
 
--- [1] place, [3] command word or run address, [4] resume, [5] taken, [6] stored
-abbrev pub loadNumbers : load.Outcome → List ℕ
-loadNumbers (load.refused n p) = refusalNumbers n p
-loadNumbers (load.accepted (end p) t b) = 0 ∷ p ∷ 1 ∷ 0 ∷ 0 ∷ t ∷ b ∷ 0 ∷ []
-loadNumbers (load.accepted (unknown c p) t b) = 0 ∷ p ∷ 2 ∷ c ∷ 0 ∷ t ∷ b ∷ 0 ∷ []
-loadNumbers (load.accepted (run k a r) t b) = 0 ∷ 0 ∷ stopNumber k ∷ a ∷ r ∷ t ∷ b ∷ 0 ∷ []
+-- a load, also one that a packet asked for, stopped at a run, and has where the next load goes on
+abbrev pub RUN : ℕ
+RUN = 3
 
--- ---- plans: [2] the count of pieces, or the length of the image
-abbrev pub readNumbers : read.Outcome → List ℕ
-readNumbers (read.refuses n p) = refusalNumbers n p
-readNumbers (read.reads k p f) = countNumbers k
+-- a packet asks for a run; there is no resume
+abbrev pub START : ℕ
+START = 4
 
-abbrev pub packNumbers : packed.Outcome → List ℕ
-packNumbers (packed.refusal n p) = refusalNumbers n p
-packNumbers (packed.sized k) = countNumbers k
+-- a packet was answered
+abbrev pub RESPONSE : ℕ
+RESPONSE = 5
 
--- the unit of a target: 0 APLX, 1 SROM, any other number tests no length
-unfoldable pub unitAt : ℕ → ℕ
-unitAt t = if eqb t 0 then 32 else if eqb t 1 then 4 else 1
+-- a packet gets no response, and nothing was done
+abbrev pub SILENT : ℕ
+SILENT = 6
 
--- ---- packets: [2] the reply, 1 a response, 2 a run, 3 a run at which a load stopped; [3] length of the response; [4] kind of the run,
--- 1 ARM, 2 Thumb; [5] its address; [6] resume
+-- a plan was read
+abbrev pub READ : ℕ
+READ = 7
+
+-- a plan was packed
+abbrev pub PACKED : ℕ
+PACKED = 8
+
+-- the kind of a run: 0 where there is none, 1 ARM, 2 Thumb
 abbrev pub kindNumber : Kind → ℕ
 kindNumber arm = 1
 kindNumber thumb = 2
 
-abbrev pub runNumbers : ℕ → Kind → ℕ → ℕ → List ℕ
-runNumbers n k a r = 0 ∷ 0 ∷ n ∷ 0 ∷ kindNumber k ∷ a ∷ r ∷ 0 ∷ []
+-- ---- what calls share
+-- a refusal: its number and its place; of an output that is too small also the bytes that were needed
+abbrev pub refusedParts : ℕ → ℕ → ℕ → Parts
+refusedParts n p b = record { refusal = n; place = p; event = REFUSED; kind = 0; address = 0; resume = 0; items = 0; bytes = b }
+
+-- the bytes needed that a refusal tells: k for an output too small for k bytes, which is refusal 10
+abbrev pub needed : ℕ → ℕ → ℕ
+needed n k = if eqb n 10 then k else 0
+
+-- a run, with the items taken and the bytes stored before it
+abbrev pub runParts : ℕ → Kind → ℕ → ℕ → ℕ → ℕ → Parts
+runParts e k a r t b =
+    record { refusal = 0; place = 0; event = e; kind = kindNumber k; address = a; resume = r; items = t; bytes = b }
+
+-- an event with a count of items or of bytes, or with neither
+abbrev pub countParts : ℕ → ℕ → ℕ → Parts
+countParts e t b = record { refusal = 0; place = 0; event = e; kind = 0; address = 0; resume = 0; items = t; bytes = b }
+
+-- ---- loads: where it stopped, the entries or blocks before the stop, and the bytes stored
+abbrev pub loadParts : load.Outcome → Parts
+loadParts (load.refused n p) = refusedParts n p 0
+loadParts (load.accepted (end p) t b) =
+    record { refusal = 0; place = p; event = END; kind = 0; address = 0; resume = 0; items = t; bytes = b }
+loadParts (load.accepted (unknown c p) t b) =
+    record { refusal = 0; place = p; event = UNKNOWN; kind = 0; address = c; resume = 0; items = t; bytes = b }
+loadParts (load.accepted (run k a r) t b) = runParts RUN k a r t b
+
+abbrev pub loadNumbers : load.Outcome → List ℕ
+loadNumbers x = numbers (loadParts x)
+
+-- ---- packets: the response's length, or the run. The output has to hold 272 bytes
+abbrev pub replyParts : scp.Reply → Parts
+replyParts (scp.refused n p) = refusedParts n p (needed n 272)
+replyParts scp.silent = countParts SILENT 0 0
+replyParts (scp.responds n) = countParts RESPONSE 0 n
+replyParts (scp.runs k a) = runParts START k a 0 0 0
+replyParts (scp.loads k a r) = runParts RUN k a r 0 0
 
 abbrev pub replyNumbers : scp.Reply → List ℕ
-replyNumbers (scp.refused n p) = refusalNumbers n p
-replyNumbers scp.silent = refusalNumbers 0 0
-replyNumbers (scp.responds n) = 0 ∷ 0 ∷ 1 ∷ n ∷ 0 ∷ 0 ∷ 0 ∷ 0 ∷ []
-replyNumbers (scp.runs k a) = runNumbers 2 k a 0
-replyNumbers (scp.loads k a r) = runNumbers 3 k a r
+replyNumbers x = numbers (replyParts x)
 
-abbrev pub identityOf : ℕ → ℕ → ℕ → ℕ → ℕ → Identity
-identityOf node physical number release day =
-    record { «point_to_point» = node; «physical_cpu» = physical; «virtual_cpu» = number; version = release; date = day }
+-- ---- plans: the count of pieces, or the length of the image. k is the length that the image of the plan has
+abbrev pub readParts : read.Outcome → Parts
+readParts (read.refuses n p) = refusedParts n p 0
+readParts (read.reads k p f) = countParts READ k 0
+
+abbrev pub readNumbers : read.Outcome → List ℕ
+readNumbers x = numbers (readParts x)
+
+abbrev pub packedParts : ℕ → packed.Outcome → Parts
+packedParts k (packed.refusal n p) = refusedParts n p (needed n k)
+packedParts k (packed.sized n) = countParts PACKED 0 n
+
+abbrev pub packNumbers : ℕ → packed.Outcome → List ℕ
+packNumbers k x = numbers (packedParts k x)

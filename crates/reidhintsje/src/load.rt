@@ -1,10 +1,9 @@
 // The two loaders.
 ghost use mathlib.Core.Path.{_≡_};
-ghost use Rattle.srom.specs.Load.{sromLoad};
-ghost use Rattle.aplx.specs.Load.{aplxLoad};
-ghost use Rattle.reidhintsje.specs.Table.{mapOf};
-ghost use Rattle.reidhintsje.specs.Numbers.{first, loadNumbers};
-use crate::numbers::put_load;
+ghost use Rattle.reidhintsje.specs.Numbers.{first};
+ghost use Rattle.reidhintsje.specs.Calls.{sromCall, aplxCall};
+use crate::numbers::load_parts;
+use crate::numbers::put;
 use crate::table::map_of;
 
 // Loads a serial ROM from an offset on.
@@ -16,13 +15,13 @@ pub extern "C" fn reidhintsje_srom_load(
     offset: usize,
     outcome: &mut [u64; 8],
 ) -> u32
-    ensures { λ r. ⌜ r ≡ first (loadNumbers (sromLoad (mapOf (now (map .entry))) (now (rom .entry)) offset (now (memory .entry)) .outcome)) ⌝ }
-    ensures { λ _. ⌜ now (outcome .exit) ≡ loadNumbers (sromLoad (mapOf (now (map .entry))) (now (rom .entry)) offset (now (memory .entry)) .outcome) ⌝ }
-    ensures { λ _. ⌜ now (memory .exit) ≡ sromLoad (mapOf (now (map .entry))) (now (rom .entry)) offset (now (memory .entry)) .memory ⌝ }
+    ensures { λ r. ⌜ r ≡ first (now (outcome .exit)) ⌝ }
+    ensures { λ _. ⌜ now (outcome .exit) ≡ sromCall (now (map .entry)) (now (rom .entry)) offset (now (memory .entry)) .numbers ⌝ }
+    ensures { λ _. ⌜ now (memory .exit) ≡ sromCall (now (map .entry)) (now (rom .entry)) offset (now (memory .entry)) .memory ⌝ }
 {
     let regions = map_of(map);
     let answer = srom::load::load(regions, memory, rom, offset);
-    put_load(outcome, answer)
+    put(outcome, load_parts(answer))
 }
 
 // Loads the APLX image whose header stands at an address.
@@ -33,11 +32,11 @@ pub extern "C" fn reidhintsje_aplx_load(
     header: u32,
     outcome: &mut [u64; 8],
 ) -> u32
-    ensures { λ r. ⌜ r ≡ first (loadNumbers (aplxLoad (mapOf (now (map .entry))) (now (memory .entry)) header .outcome)) ⌝ }
-    ensures { λ _. ⌜ now (outcome .exit) ≡ loadNumbers (aplxLoad (mapOf (now (map .entry))) (now (memory .entry)) header .outcome) ⌝ }
-    ensures { λ _. ⌜ now (memory .exit) ≡ aplxLoad (mapOf (now (map .entry))) (now (memory .entry)) header .memory ⌝ }
+    ensures { λ r. ⌜ r ≡ first (now (outcome .exit)) ⌝ }
+    ensures { λ _. ⌜ now (outcome .exit) ≡ aplxCall (now (map .entry)) (now (memory .entry)) header .numbers ⌝ }
+    ensures { λ _. ⌜ now (memory .exit) ≡ aplxCall (now (map .entry)) (now (memory .entry)) header .memory ⌝ }
 {
     let regions = map_of(map);
     let answer = aplx::load::load(regions, memory, header);
-    put_load(outcome, answer)
+    put(outcome, load_parts(answer))
 }

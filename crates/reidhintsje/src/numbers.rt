@@ -1,142 +1,214 @@
-// Outcomes as eight numbers.
+// Outcomes as eight numbers, in one layout for every call.
 ghost use mathlib.Core.Path.{_≡_};
 ghost use Rattle.outcome.specs.Outcome.{outcomeOf, stopOf, accepted, kindOf, addressOf};
 ghost use Rattle.plan.specs.Code as reader;
 ghost use Rattle.plan.specs.Code.Packer as packer;
 ghost use Rattle.scp.specs.Code.{replyOf};
-ghost use Rattle.reidhintsje.specs.Numbers.{first, refusalNumbers, countNumbers, loadNumbers, readNumbers, packNumbers, runNumbers, replyNumbers};
+ghost use Rattle.reidhintsje.specs.Numbers.{numbers, refusedParts, needed, runParts, countParts, loadParts, replyParts, readParts, packedParts};
 use outcome::answer::Answer;
 use outcome::answer::Entry;
+use outcome::answer::OUTPUT_TOO_SMALL;
 use outcome::answer::Refusal;
 use outcome::answer::Stop;
 use scp::answer::Reply;
 
-fn refusal_numbers(refusal: Refusal) -> [u64; 8]
-    ensures { λ r. ⌜ r ≡ refusalNumbers (refusal .number) (refusal .place) ⌝ }
-{
-    [
-        refusal.number as u64,
-        refusal.place as u64,
-        0,
-        0,
-        0,
-        0,
-        0,
-        0,
-    ]
+// Events: what happened.
+const REFUSED: u64 = 0;
+
+const END: u64 = 1;
+
+const UNKNOWN: u64 = 2;
+
+const RUN: u64 = 3;
+
+const START: u64 = 4;
+
+const RESPONSE: u64 = 5;
+
+const SILENT: u64 = 6;
+
+const READ: u64 = 7;
+
+const PACKED: u64 = 8;
+
+// Kinds of a run.
+const NO_KIND: u64 = 0;
+
+const ARM: u64 = 1;
+
+const THUMB: u64 = 2;
+
+// The output that a packet is answered in.
+const SCP_OUTPUT: u64 = 272;
+
+// The parts of an outcome, in the order of the numbers. What a case does not name is 0.
+pub(crate) struct Parts {
+    refusal: u32,
+    place: u64,
+    event: u64,
+    kind: u64,
+    address: u64,
+    resume: u64,
+    items: u64,
+    bytes: u64,
 }
 
-fn count_numbers(count: usize) -> [u64; 8]
-    ensures { λ r. ⌜ r ≡ countNumbers count ⌝ }
+// Writes the numbers; returns that of the refusal, or 0.
+pub(crate) fn put(outcome: &mut [u64; 8], parts: Parts) -> u32
+    ensures { λ r. ⌜ (r ≡ parts .refusal) × (now (outcome .exit) ≡ numbers parts) ⌝ }
 {
-    [0, 0, count as u64, 0, 0, 0, 0, 0]
+    *outcome = [
+        parts.refusal as u64,
+        parts.place,
+        parts.event,
+        parts.kind,
+        parts.address,
+        parts.resume,
+        parts.items,
+        parts.bytes,
+    ];
+    parts.refusal
 }
 
-fn stop_numbers(stop: Stop, taken: u64, stored: u64) -> [u64; 8]
-    ensures { λ r. ⌜ r ≡ loadNumbers (accepted (stopOf stop) taken stored) ⌝ }
+fn refused(refusal: Refusal, bytes: u64) -> Parts
+    ensures { λ r. ⌜ r ≡ refusedParts (refusal .number) (refusal .place) bytes ⌝ }
 {
-    match stop {
-        Stop::End { place } => [0, place as u64, 1, 0, 0, taken, stored, 0],
-        Stop::Unknown { command, place } => {
-            [0, place as u64, 2, command as u64, 0, taken, stored, 0]
-        }
-        Stop::Run { entry, resume } => match entry {
-            Entry::Arm(address) => [0, 0, 3, address as u64, resume as u64, taken, stored, 0],
-            Entry::Thumb(address) => [0, 0, 4, address as u64, resume as u64, taken, stored, 0],
+    Parts {
+        refusal: refusal.number,
+        place: refusal.place as u64,
+        event: REFUSED,
+        kind: NO_KIND,
+        address: 0,
+        resume: 0,
+        items: 0,
+        bytes,
+    }
+}
+
+// The bytes that a refusal tells of an output that had to hold so many.
+fn needed(number: u32, bytes: u64) -> u64
+    ensures { λ r. ⌜ r ≡ needed number bytes ⌝ }
+{
+    if number == OUTPUT_TOO_SMALL { bytes } else { 0 }
+}
+
+fn run(event: u64, entry: Entry, resume: u32, items: u64, bytes: u64) -> Parts
+    ensures { λ r. ⌜ r ≡ runParts event (kindOf entry) (addressOf entry) resume items bytes ⌝ }
+{
+    match entry {
+        Entry::Arm(address) => Parts {
+            refusal: 0,
+            place: 0,
+            event,
+            kind: ARM,
+            address: address as u64,
+            resume: resume as u64,
+            items,
+            bytes,
+        },
+        Entry::Thumb(address) => Parts {
+            refusal: 0,
+            place: 0,
+            event,
+            kind: THUMB,
+            address: address as u64,
+            resume: resume as u64,
+            items,
+            bytes,
         },
     }
 }
 
-// A run that a packet asks for, of either reply.
-fn run_numbers(reply: u64, entry: Entry, resume: u32) -> [u64; 8]
-    ensures { λ r. ⌜ r ≡ runNumbers reply (kindOf entry) (addressOf entry) resume ⌝ }
+fn count(event: u64, items: u64, bytes: u64) -> Parts
+    ensures { λ r. ⌜ r ≡ countParts event items bytes ⌝ }
 {
-    match entry {
-        Entry::Arm(address) => [0, 0, reply, 0, 1, address as u64, resume as u64, 0],
-        Entry::Thumb(address) => [0, 0, reply, 0, 2, address as u64, resume as u64, 0],
+    Parts {
+        refusal: 0,
+        place: 0,
+        event,
+        kind: NO_KIND,
+        address: 0,
+        resume: 0,
+        items,
+        bytes,
     }
 }
 
-// The numbers of a load; returns the number of its refusal, or 0.
-pub(crate) fn put_load(outcome: &mut [u64; 8], answer: Answer) -> u32
-    ensures { λ r. ⌜ (r ≡ first (loadNumbers (outcomeOf answer))) × (now (outcome .exit) ≡ loadNumbers (outcomeOf answer)) ⌝ }
+fn stop_parts(stop: Stop, taken: u64, stored: u64) -> Parts
+    ensures { λ r. ⌜ r ≡ loadParts (accepted (stopOf stop) taken stored) ⌝ }
+{
+    match stop {
+        Stop::End { place } => Parts {
+            refusal: 0,
+            place: place as u64,
+            event: END,
+            kind: NO_KIND,
+            address: 0,
+            resume: 0,
+            items: taken,
+            bytes: stored,
+        },
+        Stop::Unknown { command, place } => Parts {
+            refusal: 0,
+            place: place as u64,
+            event: UNKNOWN,
+            kind: NO_KIND,
+            address: command as u64,
+            resume: 0,
+            items: taken,
+            bytes: stored,
+        },
+        Stop::Run { entry, resume } => run(RUN, entry, resume, taken, stored),
+    }
+}
+
+// A load.
+pub(crate) fn load_parts(answer: Answer) -> Parts
+    ensures { λ r. ⌜ r ≡ loadParts (outcomeOf answer) ⌝ }
 {
     match answer {
-        Answer::Refused(refusal) => {
-            *outcome = refusal_numbers(refusal);
-            refusal.number
-        }
+        Answer::Refused(refusal) => refused(refusal, 0),
         Answer::Accepted {
             stop,
             taken,
             stored,
-        } => {
-            *outcome = stop_numbers(stop, taken as u64, stored);
-            0
-        }
+        } => stop_parts(stop, taken as u64, stored),
     }
 }
 
-// The numbers of a plan that was read.
-pub(crate) fn put_read(outcome: &mut [u64; 8], answer: plan::read::Answer) -> u32
-    ensures { λ r. ⌜ (r ≡ first (readNumbers (reader.outcomeIs answer))) × (now (outcome .exit) ≡ readNumbers (reader.outcomeIs answer)) ⌝ }
-{
-    match answer {
-        plan::read::Answer::Refused(refusal) => {
-            *outcome = refusal_numbers(refusal);
-            refusal.number
-        }
-        plan::read::Answer::Pieces {
-            count,
-            puts: _,
-            fills: _,
-        } => {
-            *outcome = count_numbers(count);
-            0
-        }
-    }
-}
-
-// The numbers of a plan that was packed.
-pub(crate) fn put_packed(outcome: &mut [u64; 8], answer: plan::packed::Answer) -> u32
-    ensures { λ r. ⌜ (r ≡ first (packNumbers (packer.outcomeIs answer))) × (now (outcome .exit) ≡ packNumbers (packer.outcomeIs answer)) ⌝ }
-{
-    match answer {
-        plan::packed::Answer::Refused(refusal) => {
-            *outcome = refusal_numbers(refusal);
-            refusal.number
-        }
-        plan::packed::Answer::Packed { size } => {
-            *outcome = count_numbers(size);
-            0
-        }
-    }
-}
-
-// The numbers of a packet's reply.
-pub(crate) fn put_reply(outcome: &mut [u64; 8], reply: Reply) -> u32
-    ensures { λ r. ⌜ (r ≡ first (replyNumbers (replyOf reply))) × (now (outcome .exit) ≡ replyNumbers (replyOf reply)) ⌝ }
+// A packet's reply.
+pub(crate) fn reply_parts(reply: Reply) -> Parts
+    ensures { λ r. ⌜ r ≡ replyParts (replyOf reply) ⌝ }
 {
     match reply {
-        Reply::Refused(refusal) => {
-            *outcome = refusal_numbers(refusal);
-            refusal.number
-        }
-        Reply::Silent => {
-            *outcome = [0, 0, 0, 0, 0, 0, 0, 0];
-            0
-        }
-        Reply::Response { size } => {
-            *outcome = [0, 0, 1, size as u64, 0, 0, 0, 0];
-            0
-        }
-        Reply::Run { entry } => {
-            *outcome = run_numbers(2, entry, 0);
-            0
-        }
-        Reply::Load { entry, resume } => {
-            *outcome = run_numbers(3, entry, resume);
-            0
-        }
+        Reply::Refused(refusal) => refused(refusal, needed(refusal.number, SCP_OUTPUT)),
+        Reply::Silent => count(SILENT, 0, 0),
+        Reply::Response { size } => count(RESPONSE, 0, size as u64),
+        Reply::Run { entry } => run(START, entry, 0, 0, 0),
+        Reply::Load { entry, resume } => run(RUN, entry, resume, 0, 0),
+    }
+}
+
+// A plan that was read.
+pub(crate) fn read_parts(answer: plan::read::Answer) -> Parts
+    ensures { λ r. ⌜ r ≡ readParts (reader.outcomeIs answer) ⌝ }
+{
+    match answer {
+        plan::read::Answer::Refused(refusal) => refused(refusal, 0),
+        plan::read::Answer::Pieces {
+            count: pieces,
+            puts: _,
+            fills: _,
+        } => count(READ, pieces as u64, 0),
+    }
+}
+
+// A plan that was packed, whose image has so many bytes.
+pub(crate) fn packed_parts(answer: plan::packed::Answer, image: u64) -> Parts
+    ensures { λ r. ⌜ r ≡ packedParts image (packer.outcomeIs answer) ⌝ }
+{
+    match answer {
+        plan::packed::Answer::Refused(refusal) => refused(refusal, needed(refusal.number, image)),
+        plan::packed::Answer::Packed { size } => count(PACKED, 0, size as u64),
     }
 }

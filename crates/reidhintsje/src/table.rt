@@ -3,13 +3,22 @@ ghost use mathlib.Core.Path.{_≡_};
 ghost use Prim.Native.Nat.{_≤_};
 ghost use lib.ListN as list;
 ghost use Rattle.words.specs.Store.{storeIfFits};
-ghost use Rattle.memory_map.specs.Map.{add};
-ghost use Rattle.reidhintsje.specs.Table.{rightsOf, regionOf, regionIn, mapOf, bitOf, rightsNumber, regionBytes, tableOf, verdictNumber, tableAfter};
+ghost use Rattle.reidhintsje.specs.Table.{rightsOf, regionOf, regionIn, rightsKnown, regular, mapOf, bitOf, rightsNumber, regionBytes, tableOf, addition, verdictNumber, tableAfter};
+ghost use Rattle.reidhintsje.specs.Calls.{soundCall};
 use memory_map::map::Map;
 use memory_map::map::Verdict;
+use memory_map::refusal::MAP_NOT_SOUND;
 use memory_map::region::Region;
 use memory_map::region::Rights;
 use words::read::le_word_at;
+
+// The length of a table, and the most regions in it.
+const TABLE: usize = 132;
+
+const MOST_REGIONS: usize = 8;
+
+// All rights: a number over this has a bit without a meaning.
+const ALL_RIGHTS: u32 = 7;
 
 // 1 read, 2 write, 4 run.
 fn rights_of(bits: u32) -> Rights
@@ -42,13 +51,42 @@ fn region_in(table: &[u8], at: usize) -> Region
     region_of(w.first, w.second, w.third, w.fourth)
 }
 
-// The map that a table is; one of another length is no sound map.
+// Whether so many regions from the first on have rights that are known.
+fn rights_known(table: &[u8], count: usize) -> bool
+    requires { ⌜ count ≤ 8 ⌝ }
+    ensures { λ r. ⌜ r ≡ rightsKnown count (now (table .entry)) 4 ⌝ }
+{
+    let mut i: usize = 0;
+    while i < count {
+        if le_word_at(table, 16 + 16 * i) > ALL_RIGHTS {
+            return false;
+        }
+        i += 1;
+    }
+    true
+}
+
+// Whether a table has its length, no more regions than it can hold, and known rights in those in use.
+fn regular(table: &[u8]) -> bool
+    ensures { λ r. ⌜ r ≡ regular (now (table .entry)) ⌝ }
+{
+    if table.len() != TABLE {
+        return false;
+    }
+    let count = le_word_at(table, 0) as usize;
+    if count > MOST_REGIONS {
+        return false;
+    }
+    rights_known(table, count)
+}
+
+// The map that a table is; another table is no sound map.
 pub(crate) fn map_of(table: &[u8]) -> Map
     ensures { λ r. ⌜ r ≡ mapOf (now (table .entry)) ⌝ }
 {
-    if table.len() != 132 {
+    if !regular(table) {
         let mut none = Map::empty();
-        none.count = 9;
+        none.count = MOST_REGIONS + 1;
         return none;
     }
     let a = region_in(table, 4);
@@ -93,7 +131,7 @@ fn put_table(table: &mut [u8], map: Map)
 {
     words::put::le_word(table, 0, map.count as u32);
     let mut i: usize = 0;
-    while i < 8 {
+    while i < MOST_REGIONS {
         let region = map.regions[i];
         put_region(table, 4 + 16 * i, region);
         i += 1;
@@ -109,9 +147,12 @@ pub extern "C" fn reidhintsje_map_add(
     place: u32,
     rights: u32,
 ) -> u32
-    ensures { λ r. ⌜ r ≡ verdictNumber (add (mapOf (now (map .entry))) (regionOf base length place rights) .verdict) ⌝ }
-    ensures { λ _. ⌜ now (map .exit) ≡ tableAfter (now (map .entry)) (add (mapOf (now (map .entry))) (regionOf base length place rights)) ⌝ }
+    ensures { λ r. ⌜ r ≡ verdictNumber (addition (now (map .entry)) base length place rights .verdict) ⌝ }
+    ensures { λ _. ⌜ now (map .exit) ≡ tableAfter (now (map .entry)) (addition (now (map .entry)) base length place rights) ⌝ }
 {
+    if rights > ALL_RIGHTS {
+        return MAP_NOT_SOUND;
+    }
     let regions = map_of(map);
     let region = region_of(base, length, place, rights);
     let addition = regions.add(region);
@@ -122,5 +163,18 @@ pub extern "C" fn reidhintsje_map_add(
             0
         }
         Verdict::Refused(refusal) => refusal.number,
+    }
+}
+
+// Whether a map is sound for a memory of so many bytes: 0, or the refusal's number.
+#[no_mangle]
+pub extern "C" fn reidhintsje_map_sound(map: &[u8], memory_length: usize) -> u32
+    ensures { λ r. ⌜ r ≡ soundCall (now (map .entry)) «memory_length» ⌝ }
+{
+    let regions = map_of(map);
+    if regions.sound(memory_length) {
+        0
+    } else {
+        MAP_NOT_SOUND
     }
 }

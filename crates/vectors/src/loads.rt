@@ -29,7 +29,13 @@ pub(crate) fn map_add(s: &[u8], at: usize, record: u64, map: &mut [u8]) -> usize
     let length = word_at(s, length_at);
     let place = word_at(s, place_at);
     let rights = word_at(s, rights_at);
-    let number = reidhintsje::table::reidhintsje_map_add(&mut map[..n], base, length, place, rights);
+    let number = reidhintsje::table::reidhintsje_map_add(
+        &mut map[..n],
+        base,
+        length,
+        place,
+        rights,
+    );
     title(b"map_add", record);
     returned(number);
     tell::front(map, n);
@@ -73,7 +79,12 @@ pub(crate) fn aplx_load(s: &[u8], at: usize, record: u64, memory: &mut [u8]) -> 
     let map = slice_at(s, at);
     let header = word_at(s, header_at);
     let mut outcome = [0u64; 8];
-    let number = reidhintsje::load::reidhintsje_aplx_load(map, &mut memory[..n], header, &mut outcome);
+    let number = reidhintsje::load::reidhintsje_aplx_load(
+        map,
+        &mut memory[..n],
+        header,
+        &mut outcome,
+    );
     title(b"aplx_load", record);
     numbers(number, outcome);
     tell::front(memory, n);

@@ -1,6 +1,6 @@
 -- `reidhintsje::plans::target_of` meets its contract: the tests are those of the definition, in its order.
 use borrow.Author.Tests.{eq-eqb, ne-eqb}
-use Rattle.reidhintsje.specs.Numbers.{unitAt}
+use Rattle.reidhintsje.specs.Calls.{unitAt}
 use Rattle.reidhintsje.proofs.plans.target_of.Statement.{statement}
 use Rattle.reidhintsje.proofs.plans.target_of.Tie as tie
 

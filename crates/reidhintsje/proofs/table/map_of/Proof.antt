@@ -1,17 +1,23 @@
--- `reidhintsje::table::map_of` meets its contract: no sound map for another length, else the count and the eight regions.
+-- `reidhintsje::table::map_of` meets its contract: no sound map for another table, else the count and the eight regions.
 use borrow.Author.Needs.{needs}
-use borrow.Author.Tests.{eq-eqb, ne-eqb}
-use lib.ListN.{length}
-use Rattle.reidhintsje.specs.Table.{mapOf, regionsIn}
+use mathlib.Core.Path.{sym, _∙_}
+use borrow.Author.Tests.{not-true, not-false}
+use Rattle.reidhintsje.specs.Table.{regionsIn}
+use Rattle.reidhintsje.specs.Table.Laws.{map-of-table, map-of-other}
 use Rattle.reidhintsje.proofs.table.map_of.Statement.{statement}
 use Rattle.reidhintsje.proofs.table.map_of.Tie as tie
+
+regular-requires : tie.Need-regular-requires
+regular-requires c κs = search needs
 
 empty-requires : tie.Need-empty-requires
 empty-requires c κs = search needs
 
+add-none : tie.Need-add-none
+add-none c = search needs
+
 returns : tie.Need-returns
-unfolding mapOf regionsIn
-returns c = simp (c .empty .ensures, ne-eqb (length (c .before .before .before .args .table .now)) 132 (c .before .if1 .taken))
+returns c = simp (c .empty .ensures) (sym (map-of-other (c .before .before .before .before .args .table .now) (sym (c .before .before .regular .ensures) ∙ not-true _ (c .before .if1 .taken))))
 
 region-in-requires : tie.Need-region-in-requires
 region-in-requires c κs = search needs
@@ -44,12 +50,11 @@ cast-count : tie.Need-cast-count
 cast-count c = search needs
 
 returns-2 : tie.Need-returns-2
-unfolding mapOf regionsIn
-returns-2 c =
-    let fourth = c .before .before .before .before .before in
+unfolding regionsIn
+returns-2 c = let fourth = c .before .before .before .before .before in
     let tested = c .before .before .before .before .before .before .before .before .before in
-    simp (
-      eq-eqb (length (tested .before .before .args .table .now)) 132 (tested .if1 .left),
+    rw (map-of-table (tested .before .before .before .args .table .now) (sym (tested .before .regular .ensures) ∙ not-false _ (tested .if1 .left)))
+    (simp (
       c .le-word-at .ensures,
       c .before .region-in8 .ensures,
       c .before .before .region-in7 .ensures,
@@ -59,13 +64,15 @@ returns-2 c =
       fourth .before .region-in3 .ensures,
       fourth .before .before .region-in2 .ensures,
       fourth .before .before .before .region-in .ensures,
-    )
+    ))
 
 pub map-of-spec : {M : Type 1} → statement M
 map-of-spec =
     tie.close
     (tie.spec
+    regular-requires
     empty-requires
+    add-none
     returns
     region-in-requires
     region-in-requires-2
