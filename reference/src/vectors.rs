@@ -1,13 +1,13 @@
 //! Writes stored vectors for a Rattle program: `vectors DIR` writes DIR/stdin and DIR/stdout.
 //!
 //! DIR/stdin is a stream of records. A record is one call: a byte for its kind (1 map_add, 2 srom_load,
-//! 3 aplx_load, 4 scp_answer, 5 plan_read, 6 pack_srom, 7 pack_aplx), then its arguments in the order of the
+//! 3 aplx_load, 4 scp_answer, 5 plan_read, 6 pack_srom, 7 pack_aplx, 8 map_sound), then its arguments in the order of the
 //! interface: a number as 8 bytes Little Endian, a slice as its length in 4 bytes Little Endian and its bytes,
 //! an output buffer by its bytes before the call; the outcome array is no argument of a record. A sequence of
 //! additions is a row of map_add records, each with the table that the one before it left.
 //!
 //! DIR/stdout has for each record: a line with the kind's name and the record's number, counted from 0; a line with
-//! the returned number and the eight outcome numbers (map_add: the returned number only); and for each buffer that
+//! the returned number and the eight outcome numbers (map_add and map_sound: the returned number only); and for each buffer that
 //! the call may change a line with its bytes in hex: the table, or memory, then the output.
 
 use std::fs;
@@ -19,8 +19,7 @@ use reference::generate::{case_of, Call, Case, Size};
 use reference::interface::{table_of, Library, Outcome, Reference};
 use reference::map::{Map, Region, Rights};
 use reference::random::Random;
-use reference::scp::Identity;
-use reference::tally::{load_kind, number_kind, reply_kind, required, Tally};
+use reference::tally::{load_kind, number_kind, reply_kind, required, rights_kind, table_kind, Tally};
 
 const SEED: u64 = 6_122_011;
 const MOST_INPUT: usize = 500_000;
@@ -35,6 +34,8 @@ fn beyond(call: &str, what: &str) -> bool {
     call.starts_with("series")
         || what.starts_with("memory")
         || what.starts_with("taken")
+        || what.starts_with("identity")
+        || (call == "map_sound" && (what == "accepted" || what.starts_with("refused")))
         || (call == "srom_load" && what == "refused 13")
         || (call == "aplx_load" && what == "refused  7")
 }
@@ -112,12 +113,20 @@ impl Streams {
                         .number(u64::from(rights));
                     let number = Reference.map_add(&mut table, base, length, place, rights);
                     wanted |= self.wants("map_add", number_kind(u64::from(number)));
+                    wanted |= self.wants("map_add", rights_kind(number, rights));
                     records.push((record, number, table.clone()));
                 }
                 if wanted {
                     for (record, number, after) in records {
                         self.write(record, "map_add", &[u64::from(number)], &[&after]);
                     }
+                }
+            }
+            Case::MapSound { table, memory_length } => {
+                let number = Reference.map_sound(table, *memory_length);
+                if self.wants("map_sound", table_kind(number, table).to_string()) || always {
+                    let record = Record::new(8).slice(table).number(*memory_length as u64);
+                    self.write(record, "map_sound", &[u64::from(number)], &[]);
                 }
             }
             Case::SromLoad { table, memory, rom, offset } => {
@@ -140,19 +149,14 @@ impl Streams {
             Case::ScpAnswer { table, memory, identity, packet, output } => {
                 let (mut after, mut answered) = (memory.clone(), output.clone());
                 let number = Reference.scp_answer(
-                    table, &mut after, *identity, packet, &mut answered, &mut outcome,
+                    table, &mut after, identity, packet, &mut answered, &mut outcome,
                 );
                 if self.wants("scp_answer", reply_kind(&outcome, packet, &answered)) || always {
-                    let record = Record::new(4)
-                        .slice(table)
-                        .slice(memory)
-                        .number(u64::from(identity.point_to_point))
-                        .number(u64::from(identity.physical))
-                        .number(u64::from(identity.virtual_cpu))
-                        .number(u64::from(identity.version))
-                        .number(u64::from(identity.date))
-                        .slice(packet)
-                        .slice(output);
+                    let mut record = Record::new(4).slice(table).slice(memory);
+                    for number in identity {
+                        record = record.number(u64::from(*number));
+                    }
+                    let record = record.slice(packet).slice(output);
                     self.write(record, "scp_answer", &all(number, &outcome), &[&after, &answered]);
                 }
             }
@@ -250,7 +254,7 @@ fn weighed() -> Vec<Case> {
         cases.push(Case::ScpAnswer {
             table: table(&[[0, 300, 0, 1]]),
             memory: (0..300).map(|k| k as u8).collect(),
-            identity: Identity { point_to_point: 258, physical: 3, virtual_cpu: 4, version: 129, date: 5 },
+            identity: [258, 3, 4, 129, 5],
             packet,
             output: vec![0x77; 272],
         });
@@ -287,6 +291,7 @@ fn main() {
     let mut random = Random::new(SEED);
     for call in [
         Call::MapAdd,
+        Call::MapSound,
         Call::SromLoad,
         Call::AplxLoad,
         Call::ScpAnswer,

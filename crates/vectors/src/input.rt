@@ -57,12 +57,7 @@ pub(crate) fn word_at(s: &[u8], at: usize) -> u32 {
     le_word_at(s, at)
 }
 
-// A number of at most 16 bits.
-pub(crate) fn half_at(s: &[u8], at: usize) -> u16 {
-    (le_word_at(s, at) % 65536) as u16
-}
-
-// A number of at most 8 bits.
+// The byte at a place.
 pub(crate) fn byte_at(s: &[u8], at: usize) -> u8 {
     if at < s.len() { s[at] } else { 0 }
 }

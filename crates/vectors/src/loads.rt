@@ -1,9 +1,7 @@
-// The calls that change a map or a memory. Each takes the place of its arguments and answers the place behind them, or CUT where the input ends before or a buffer is
+// The calls on a map or a memory. Each takes the place of its arguments and answers the place behind them, or CUT where the input ends before or a buffer is
 // too long; nothing is called then.
 use crate::input::CUT;
-use crate::input::byte_at;
 use crate::input::copy;
-use crate::input::half_at;
 use crate::input::number_at;
 use crate::input::past;
 use crate::input::past_buffer;
@@ -39,6 +37,19 @@ pub(crate) fn map_add(s: &[u8], at: usize, record: u64, map: &mut [u8]) -> usize
     title(b"map_add", record);
     returned(number);
     tell::front(map, n);
+    end
+}
+
+pub(crate) fn map_sound(s: &[u8], at: usize, record: u64) -> usize {
+    let memory_at = past_slice(s, at);
+    let end = past_number(s, memory_at);
+    if end > s.len() {
+        return CUT;
+    }
+    let map = slice_at(s, at);
+    let number = reidhintsje::table::reidhintsje_map_sound(map, number_at(s, memory_at));
+    title(b"map_sound", record);
+    returned(number);
     end
 }
 
@@ -106,14 +117,17 @@ fn answer(
     let version_at = past_number(s, virtual_at);
     let date_at = past_number(s, version_at);
     let mut outcome = [0u64; 8];
+    let identity = [
+        word_at(s, at),
+        word_at(s, physical_at),
+        word_at(s, virtual_at),
+        word_at(s, version_at),
+        word_at(s, date_at),
+    ];
     let number = reidhintsje::packet::reidhintsje_scp_answer(
         map,
         memory,
-        half_at(s, at),
-        byte_at(s, physical_at),
-        byte_at(s, virtual_at),
-        half_at(s, version_at),
-        word_at(s, date_at),
+        &identity,
         packet,
         output,
         &mut outcome,

@@ -17,6 +17,7 @@ fn call(s: &[u8], at: usize, record: u64) -> usize {
         5 => crate::plans::plan_read(s, from, record),
         6 => crate::plans::pack_srom(s, from, record, &mut output),
         7 => crate::plans::pack_aplx(s, from, record, &mut output),
+        8 => crate::loads::map_sound(s, from, record),
         _ => CUT,
     }
 }
