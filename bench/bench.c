@@ -14,6 +14,7 @@ enum { KIB = 1024, MIB = 1024 * 1024, ROUNDS = 9 };
 static uint8_t map[132], ascending[132], mixed[132], *ours, *theirs, *rom, *plan, *out1, *out2, packet[272], reply1[272], reply2[272];
 static size_t rom_length, plan_length, packet_length;
 static uint64_t outcome1[8], outcome2[8];
+static const uint32_t identity[REIDHINTSJE_IDENTITY_NUMBERS];
 static size_t limit_length;
 
 static double now(void)
@@ -32,7 +33,7 @@ static void library_pack_srom(void) { reidhintsje_pack_srom(plan, plan_length, o
 static void plain_pack_srom_(void) { plain_pack_srom(plan, plan_length, out2, 5 * MIB, outcome2); }
 static void library_pack_aplx(void) { reidhintsje_pack_aplx(plan, plan_length, out1, 5 * MIB, outcome1); }
 static void plain_pack_aplx_(void) { plain_pack_aplx(plan, plan_length, out2, 5 * MIB, outcome2); }
-static void library_scp(void) { reidhintsje_scp_answer(map, 132, ours, SIZE, 0, 0, 0, 0, 0, packet, packet_length, reply1, 272, outcome1); }
+static void library_scp(void) { reidhintsje_scp_answer(map, 132, ours, SIZE, identity, packet, packet_length, reply1, 272, outcome1); }
 static void plain_scp(void) { plain_scp_answer(map, 132, theirs, SIZE, packet, packet_length, reply2, 272, outcome2); }
 static void limit_copy(void) { memcpy(theirs + 17 * MIB, theirs + MIB, limit_length); }
 static void limit_fill(void) { memset(theirs + 17 * MIB, 5, limit_length); }

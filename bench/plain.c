@@ -1,6 +1,8 @@
 /* Plain C: each rule written down once, loops as one writes them. Places and counts are 64 bits wide. */
 #include "plain.h"
 
+#include "../include/reidhintsje.h"
+
 #include <stdbool.h>
 #include <string.h>
 
@@ -10,13 +12,26 @@ static uint32_t big(const uint8_t *p) { return (uint32_t)p[0] << 24 | p[1] << 16
 static void put_little(uint8_t *p, uint32_t w) { p[0] = w; p[1] = w >> 8; p[2] = w >> 16; p[3] = w >> 24; }
 static void put_big(uint8_t *p, uint32_t w) { p[0] = w >> 24; p[1] = w >> 16; p[2] = w >> 8; p[3] = w; }
 
-static uint32_t answer(uint64_t *outcome, uint64_t a, uint64_t b, uint64_t c, uint64_t d, uint64_t e, uint64_t f, uint64_t g)
+/* an event that is no refusal, and no run */
+static uint32_t answer(uint64_t *outcome, uint64_t event, uint64_t place, uint64_t address, uint64_t items, uint64_t bytes)
 {
-    uint64_t all[8] = {a, b, c, d, e, f, g, 0};
+    uint64_t all[8] = {0, place, event, 0, address, 0, items, bytes};
     memcpy(outcome, all, sizeof all);
-    return (uint32_t)a;
+    return 0;
 }
-static uint32_t refuse(uint64_t *outcome, uint64_t number, uint64_t place) { return answer(outcome, number, place, 0, 0, 0, 0, 0); }
+static uint32_t ran(uint64_t *outcome, uint64_t address, uint64_t resume, uint64_t items, uint64_t bytes)
+{
+    uint64_t all[8] = {0, 0, REIDHINTSJE_RUN, address % 2 ? REIDHINTSJE_THUMB : REIDHINTSJE_ARM, address, resume, items, bytes};
+    memcpy(outcome, all, sizeof all);
+    return 0;
+}
+static uint32_t refuse_for(uint64_t *outcome, uint64_t number, uint64_t place, uint64_t needed)
+{
+    uint64_t all[8] = {number, place, REIDHINTSJE_REFUSED, 0, 0, 0, 0, needed};
+    memcpy(outcome, all, sizeof all);
+    return (uint32_t)number;
+}
+static uint32_t refuse(uint64_t *outcome, uint64_t number, uint64_t place) { return refuse_for(outcome, number, place, 0); }
 
 /* ---- the map */
 struct region { uint64_t base, length, place, rights; };
@@ -34,7 +49,7 @@ static bool sound(struct map *m, const uint8_t *table, size_t length, uint64_t s
         const uint8_t *p = table + 4 + 16 * i;
         struct region g = {little(p), little(p + 4), little(p + 8), little(p + 12)};
         if (g.base % 4 || g.length % 4 || g.length < 4 || g.length > 16777216 || g.base + g.length > 4294967280u) return false;
-        if (g.place + g.length > size) return false;
+        if (g.place + g.length > size || g.rights > 7) return false;
         for (uint64_t j = 0; j < i; j++) {
             struct region h = m->regions[j];
             if (meet(g.base, g.length, h.base, h.length) || meet(g.place, g.length, h.place, h.length)) return false;
@@ -70,17 +85,17 @@ uint32_t plain_srom_load(const uint8_t *table, size_t table_length, uint8_t *mem
     struct map m;
     if (!sound(&m, table, table_length, size)) return refuse(outcome, 1, 0);
     if (length > 16777216) return refuse(outcome, 13, 0);
-    uint64_t taken = 0, stored = 0, stop = 0, kind = 0, run = 0, o = offset;
+    uint64_t taken = 0, stored = 0, stop = 0, event = 0, run = 0, o = offset;
     for (int pass = 0; pass < 2; pass++) { /* tests, then stores */
         for (o = offset;;) {
             if (o >= length) return refuse(outcome, 2, length);
             if (rom[o] == 0x55) { o++; continue; }
-            if (rom[o] != 0x3a) { kind = 1; stop = o; break; }
+            if (rom[o] != 0x3a) { event = REIDHINTSJE_END; stop = o; break; }
             if (o + 7 > length) return refuse(outcome, 2, o);
             uint64_t words = (uint64_t)rom[o + 1] << 8 | rom[o + 2], a = big(rom + o + 3), place = 0;
             if (!words) {
                 if (!legal(&m, a)) return refuse(outcome, 9, o);
-                kind = a % 2 ? 4 : 3;
+                event = REIDHINTSJE_RUN;
                 run = a;
                 break;
             }
@@ -99,8 +114,8 @@ uint32_t plain_srom_load(const uint8_t *table, size_t table_length, uint8_t *mem
             o += 7 + 4 * words;
         }
     }
-    if (kind == 1) return answer(outcome, 0, stop, 1, 0, 0, taken, stored);
-    return answer(outcome, 0, 0, kind, run, o + 7, taken, stored);
+    if (event == REIDHINTSJE_END) return answer(outcome, event, stop, 0, taken, stored);
+    return ran(outcome, run, o + 7, taken, stored);
 }
 
 /* ---- APLX */
@@ -112,7 +127,7 @@ uint32_t plain_aplx_load(const uint8_t *table, size_t table_length, uint8_t *mem
     if (!sound(&m, table, table_length, size)) return refuse(outcome, 1, 0);
     if (header % 4) return refuse(outcome, 3, 0);
     struct { uint64_t address, to, from, length; uint32_t word; bool fill; } work[256];
-    uint64_t count = 0, place, stored = 0, kind = 0, value = 0;
+    uint64_t count = 0, place, stored = 0, event = 0, value = 0;
     for (;; count++) {
         if (count == 256) return refuse(outcome, 7, 256);
         uint64_t a = header + 16 * count;
@@ -137,10 +152,10 @@ uint32_t plain_aplx_load(const uint8_t *table, size_t table_length, uint8_t *mem
         } else {
             if (c == 4) {
                 if (!legal(&m, x)) return refuse(outcome, 9, count);
-                kind = x % 2 ? 4 : 3;
+                event = REIDHINTSJE_RUN;
                 value = x;
             } else {
-                kind = c == 0xffffffff ? 1 : 2;
+                event = c == 0xffffffff ? REIDHINTSJE_END : REIDHINTSJE_UNKNOWN;
                 value = c == 0xffffffff ? 0 : c;
             }
             break;
@@ -157,8 +172,8 @@ uint32_t plain_aplx_load(const uint8_t *table, size_t table_length, uint8_t *mem
             for (uint64_t k = 0; k < work[i].length; k += 4) put_little(to + k, little(from + k));
         stored += work[i].length;
     }
-    if (kind >= 3) return answer(outcome, 0, 0, kind, value, header + 16 * (count + 1), count, stored);
-    return answer(outcome, 0, count, kind, value, 0, count, stored);
+    if (event == REIDHINTSJE_RUN) return ran(outcome, value, header + 16 * (count + 1), count, stored);
+    return answer(outcome, event, count, value, count, stored);
 }
 
 /* ---- SCP, READ and WRITE */
@@ -168,16 +183,16 @@ static uint32_t coded(const uint8_t *packet, uint8_t *output, uint16_t code, uin
     output[1] = 0;
     output[2] = packet[2];
     output[3] = packet[3];
-    return answer(outcome, 0, 0, 1, 4, 0, 0, 0);
+    return answer(outcome, REIDHINTSJE_RESPONSE, 0, 0, 0, 4);
 }
 
 uint32_t plain_scp_answer(const uint8_t *table, size_t table_length, uint8_t *memory, size_t size, const uint8_t *packet, size_t length,
                           uint8_t *output, size_t room, uint64_t *outcome)
 {
     struct map m;
-    if (room < 272) return refuse(outcome, 10, 0);
+    if (room < 272) return refuse_for(outcome, 10, 0, 272);
     if (!sound(&m, table, table_length, size)) return refuse(outcome, 1, 0);
-    if (length < 4) return refuse(outcome, 0, 0);
+    if (length < 4) return answer(outcome, REIDHINTSJE_SILENT, 0, 0, 0, 0);
     if (length > 272) return coded(packet, output, 0x81, outcome);
     uint32_t command = packet[0] | packet[1] << 8;
     if (command != 2 && command != 3) return coded(packet, output, 0x83, outcome);
@@ -191,7 +206,7 @@ uint32_t plain_scp_answer(const uint8_t *table, size_t table_length, uint8_t *me
     coded(packet, output, 0x80, outcome);
     if (command == 2) {
         for (uint64_t k = 0; k < n; k++) output[4 + k] = memory[place + k];
-        outcome[3] = 4 + n;
+        outcome[REIDHINTSJE_BYTES] = 4 + n;
     } else {
         for (uint64_t k = 0; k < n; k++) memory[place + k] = packet[16 + k];
     }
@@ -222,7 +237,7 @@ static uint32_t pack(const uint8_t *plan, size_t length, uint8_t *output, size_t
         *(kind == 1 ? &puts : &fills) += n;
     }
     uint64_t image = unit == 32 ? 16 * (count + 1) + puts : 2 + 7 * count + puts + fills;
-    if (room < image) return refuse(outcome, 10, count);
+    if (room < image) return refuse_for(outcome, 10, count, image);
     uint8_t *to = output, *more = output + 16 * (count + 1);
     if (unit == 4) *to++ = 0x55;
     for (uint64_t i = 0; i < count; i++) {
@@ -260,7 +275,7 @@ static uint32_t pack(const uint8_t *plan, size_t length, uint8_t *output, size_t
         put_little(to + 8, 0);
         put_little(to + 12, 0);
     }
-    return answer(outcome, 0, 0, image, 0, 0, 0, 0);
+    return answer(outcome, REIDHINTSJE_PACKED, 0, 0, 0, image);
 }
 
 uint32_t plain_pack_srom(const uint8_t *plan, size_t length, uint8_t *output, size_t room, uint64_t *outcome)

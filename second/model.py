@@ -3,16 +3,16 @@
 It makes the expected output of the program replay (see replay.py). Nothing of the product depends on it.
 
 An answer is a tuple: a word and its values.
-  ('refused', number, place)
+  ('refused', number, place, bytes that the output needed, of refusal 10)
   a load: ('end', place, taken, stored), ('unknown', command, place, taken, stored), ('run', kind, address, resume, taken, stored)
   a packet: ('silent',), ('response', size), ('run asked', kind, address), ('run loaded', kind, address, resume)
-  a plan that was read or packed: ('size', pieces or bytes)
+  a plan that was read: ('pieces', count); one that was packed: ('size', bytes)
 """
 
 
 class Refused(Exception):
-    def __init__(self, number, place=0):
-        self.answer = 'refused', number, place
+    def __init__(self, number, place=0, needed=0):
+        self.answer = 'refused', number, place, needed
 
 
 # ---- Memory map
@@ -203,9 +203,9 @@ def scp_answer(regions, memory, identity, packet, output):
 
     ok, length_error, command_error, argument_error = 0x80, 0x81, 0x83, 0x84
     if len(output) < 272:
-        return 'refused', 10, 0
+        return 'refused', 10, 0, 272
     if not sound(regions, len(memory)):
-        return 'refused', 1, 0
+        return 'refused', 1, 0, 0
     if len(packet) < 4:
         return ('silent',)
     if len(packet) > 272:
@@ -294,7 +294,7 @@ def read_plan(plan, unit):
 def plan_read(plan, unit):
     """The answer: how many pieces there are."""
     try:
-        return 'size', len(read_plan(plan, unit))
+        return 'pieces', len(read_plan(plan, unit))
     except Refused as r:
         return r.answer
 
@@ -311,7 +311,7 @@ def pack_srom(plan, output):
                 image += data[k:k + 4][::-1]
         image += b'\xff'
         if len(image) > len(output):
-            raise Refused(10, len(pieces))
+            raise Refused(10, len(pieces), len(image))
     except Refused as r:
         return r.answer
     output[:len(image)] = image
@@ -336,7 +336,7 @@ def pack_aplx(plan, output):
             entries += b''.join(word.to_bytes(4, 'little') for word in words)
         image = entries + b'\xff' * 4 + bytes(12) + data
         if len(image) > len(output):
-            raise Refused(10, len(pieces))
+            raise Refused(10, len(pieces), len(image))
     except Refused as r:
         return r.answer
     output[:len(image)] = image
@@ -350,7 +350,7 @@ def converted(pack, plan):
     output = bytearray(65536)
     answer = pack(plan, output)
     if answer[0] == 'refused':
-        return b'refused %d at %d\n' % answer[1:]
+        return b'refused %d at %d\n' % answer[1:3]
     return bytes(output[:answer[1]])
 
 

@@ -22,7 +22,7 @@ CALLS = {
     'map_add': ('table', WORD, WORD, WORD, WORD),
     'srom_load': ('table', 'memory', 'input', LONG),
     'aplx_load': ('table', 'memory', WORD),
-    'scp_answer': ('table', 'memory', 65535, 255, 255, 65535, WORD, 'input', 'output'),
+    'scp_answer': ('table', 'memory', WORD, WORD, WORD, WORD, WORD, 'input', 'output'),
     'plan_read': ('input', WORD),
     'pack_srom': ('input', 'output'),
     'pack_aplx': ('input', 'output'),
@@ -39,13 +39,15 @@ class NoCall(Exception):
 # ---- a map as a table of bytes
 
 def regions_of(table):
-    """The regions of a table; None where it is no map of at most 8."""
+    """The regions of a table; None where it is no map of at most 8 whose rights are known."""
     count = int.from_bytes(table[:4], 'little')
     if len(table) != 132 or count > 8:
         return None
     regions = []
     for at in range(4, 4 + 16 * count, 16):
         base, length, place, rights = (int.from_bytes(table[k:k + 4], 'little') for k in range(at, at + 16, 4))
+        if rights > 7:
+            return None
         regions.append(model.Region(base, length, place, rights_of(rights)))
     return regions
 
@@ -56,12 +58,12 @@ def rights_of(number):
 
 def map_add(table, base, length, place, rights):
     regions = regions_of(table)
-    if regions is None or not model.add(regions, model.Region(base, length, place, rights_of(rights)))[1]:
+    if rights > 7 or regions is None or not model.add(regions, model.Region(base, length, place, rights_of(rights)))[1]:
         return [1]
     at = 4 + 16 * len(regions)
-    table[at:at + 16] = b''.join(n.to_bytes(4, 'little') for n in (base, length, place, rights % 8))
+    table[at:at + 16] = b''.join(n.to_bytes(4, 'little') for n in (base, length, place, rights))
     table[:4] = (len(regions) + 1).to_bytes(4, 'little')
-    # the table is written anew: the higher bits of the rights are 0 in all eight regions
+    # the table is written anew: rights past the count have their three known bits
     for at in range(16, 132, 16):
         table[at:at + 4] = bytes([table[at] % 8, 0, 0, 0])
     return [0]
@@ -75,18 +77,20 @@ KIND = {'ARM': 1, 'Thumb': 2}
 def numbers(answer):
     """The returned number and the eight numbers of the outcome, of a value that model.py answers."""
     outcome = {
-        'refused': lambda number, place: [number, place],
-        'end': lambda place, taken, stored: [0, place, 1, 0, 0, taken, stored],
-        'unknown': lambda command, place, taken, stored: [0, place, 2, command, 0, taken, stored],
-        'run': lambda kind, address, resume, taken, stored: [0, 0, 2 + KIND[kind], address, resume, taken, stored],
-        'silent': lambda: [],
-        'response': lambda size: [0, 0, 1, size],
-        'run asked': lambda kind, address: [0, 0, 2, 0, KIND[kind], address],
-        'run loaded': lambda kind, address, resume: [0, 0, 3, 0, KIND[kind], address, resume],
-        'size': lambda size: [0, 0, size],
+        'refused': lambda number, place, needed: dict(refusal=number, place=place, event=0, bytes=needed),
+        'end': lambda place, taken, stored: dict(place=place, event=1, items=taken, bytes=stored),
+        'unknown': lambda command, place, taken, stored: dict(place=place, event=2, address=command, items=taken, bytes=stored),
+        'run': lambda kind, address, resume, taken, stored:
+            dict(event=3, kind=KIND[kind], address=address, resume=resume, items=taken, bytes=stored),
+        'run loaded': lambda kind, address, resume: dict(event=3, kind=KIND[kind], address=address, resume=resume),
+        'run asked': lambda kind, address: dict(event=4, kind=KIND[kind], address=address),
+        'response': lambda size: dict(event=5, bytes=size),
+        'silent': lambda: dict(event=6),
+        'pieces': lambda count: dict(event=7, items=count),
+        'size': lambda size: dict(event=8, bytes=size),
     }[answer[0]](*answer[1:])
-    outcome += [0] * (8 - len(outcome))
-    return [outcome[0]] + outcome
+    eight = [outcome.get(name, 0) for name in ('refusal', 'place', 'event', 'kind', 'address', 'resume', 'items', 'bytes')]
+    return [eight[0]] + eight
 
 
 # ---- the calls, each over its arguments; the buffers are bytearrays
@@ -100,7 +104,7 @@ def aplx_load(table, memory, header):
 
 
 def scp_answer(table, memory, node, physical, virtual, version, date, packet, output):
-    identity = node, physical, virtual, version, date
+    identity = node % 65536, physical % 256, virtual % 256, version % 65536, date
     return numbers(model.scp_answer(regions_of(table), memory, identity, packet, output))
 
 

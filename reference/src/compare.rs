@@ -5,13 +5,15 @@ use std::hint::black_box;
 
 use crate::bytes::hex;
 use crate::generate::Case;
-use crate::interface::{load_numbers, load_of, map_of, Library, Outcome, Reference};
+use crate::interface::{load_numbers, load_of, map_of, packed_numbers, Library, Outcome, Reference};
 use crate::outcome::{Answer, Refusal};
 use crate::pack;
 use crate::plan;
 use crate::random::Random;
 use crate::series::{self, Medium, Report, Step};
-use crate::tally::{load_kind, memory_kind, number_kind, reply_kind, taken_kind, Tally};
+use crate::tally::{
+    identity_kind, load_kind, memory_kind, number_kind, reply_kind, rights_kind, table_kind, taken_kind, Tally,
+};
 
 const GUARD: usize = 64;
 
@@ -126,8 +128,20 @@ pub fn compare(
                 }
                 lent.check("the table", &own)?;
                 tally.count("map_add", number_kind(u64::from(want)));
+                tally.count("map_add", rights_kind(want, rights));
             }
             return Ok(additions.len() as u64);
+        }
+        Case::MapSound { table, memory_length } => {
+            let map = Guarded::new(table, random);
+            let got = library.map_sound(map.read(), *memory_length);
+            let want = Reference.map_sound(table, *memory_length);
+            if got != want {
+                return Err(format!("the numbers differ: library {got}, reference {want}"));
+            }
+            map.check("the table", table)?;
+            tally.count("map_sound", number_kind(u64::from(want)));
+            tally.count("map_sound", table_kind(want, table).to_string());
         }
         Case::SromLoad { table, memory, rom, offset } => {
             let (map, slice) = (Guarded::new(table, random), Guarded::new(rom, random));
@@ -160,13 +174,13 @@ pub fn compare(
             let number = library.scp_answer(
                 map.read(),
                 lent.lent(),
-                *identity,
+                identity,
                 sent.read(),
                 answered.lent(),
                 numbers.lent(),
             );
             let (mut own, mut own_output) = (memory.clone(), output.clone());
-            Reference.scp_answer(table, &mut own, *identity, packet, &mut own_output, &mut expected);
+            Reference.scp_answer(table, &mut own, identity, packet, &mut own_output, &mut expected);
             numbers.check(number, &expected)?;
             lent.check("memory", &own)?;
             answered.check("the output", &own_output)?;
@@ -174,6 +188,7 @@ pub fn compare(
             sent.check("the packet", packet)?;
             tally.count("scp_answer", reply_kind(&expected, packet, &own_output));
             tally.count("scp_answer", memory_kind(memory.len()));
+            tally.count("scp_answer", identity_kind(identity).to_string());
         }
         Case::PlanRead { plan, target } => {
             let given = Guarded::new(plan, random);
@@ -251,7 +266,7 @@ fn compare_series(
         Medium::Srom => library.pack_srom(plan, output.lent(), numbers.lent()),
         Medium::Aplx { .. } => library.pack_aplx(plan, output.lent(), numbers.lent()),
     };
-    numbers.check(number, &[0, 0, own_image.len() as u64, 0, 0, 0, 0, 0])?;
+    numbers.check(number, &packed_numbers(own_image.len() as u64))?;
     let mut packed = room.clone();
     packed[..own_image.len()].copy_from_slice(&own_image);
     output.check("the packed output", &packed)?;
@@ -334,6 +349,9 @@ pub fn describe(case: &Case) -> String {
                 ));
             }
             text
+        }
+        Case::MapSound { table, memory_length } => {
+            format!("map_sound\n  table {}\n  memory_length {memory_length}\n", shown(table))
         }
         Case::SromLoad { table, memory, rom, offset } => format!(
             "srom_load\n  table {}\n  memory {}\n  rom {}\n  offset {offset}\n",

@@ -1,8 +1,7 @@
 //! The reference as a library for C, with the same names as the project's. It stands in for the project's library
 //! where the differential test itself is tested.
 
-use reference::interface::{Library, Outcome, Reference};
-use reference::scp::Identity;
+use reference::interface::{Library, Numbers, Outcome, Reference};
 use std::slice::{from_raw_parts, from_raw_parts_mut};
 
 #[no_mangle]
@@ -11,6 +10,11 @@ pub unsafe extern "C" fn reidhintsje_map_add(
     base: u32, length: u32, place: u32, rights: u32,
 ) -> u32 {
     Reference.map_add(from_raw_parts_mut(map, map_length), base, length, place, rights)
+}
+
+#[no_mangle]
+pub unsafe extern "C" fn reidhintsje_map_sound(map: *const u8, map_length: usize, memory_length: usize) -> u32 {
+    Reference.map_sound(from_raw_parts(map, map_length), memory_length)
 }
 
 #[no_mangle]
@@ -49,7 +53,7 @@ pub unsafe extern "C" fn reidhintsje_aplx_load(
 pub unsafe extern "C" fn reidhintsje_scp_answer(
     map: *const u8, map_length: usize,
     memory: *mut u8, memory_length: usize,
-    point_to_point: u16, physical_cpu: u8, virtual_cpu: u8, version: u16, date: u32,
+    identity: *const Numbers,
     packet: *const u8, packet_length: usize,
     output: *mut u8, output_length: usize,
     outcome: *mut Outcome,
@@ -57,7 +61,7 @@ pub unsafe extern "C" fn reidhintsje_scp_answer(
     Reference.scp_answer(
         from_raw_parts(map, map_length),
         from_raw_parts_mut(memory, memory_length),
-        Identity { point_to_point, physical: physical_cpu, virtual_cpu, version, date },
+        &*identity,
         from_raw_parts(packet, packet_length),
         from_raw_parts_mut(output, output_length),
         &mut *outcome,

@@ -1,5 +1,5 @@
-//! The library's interface for C and Rust (capi.md): a map is a lent table of 132 bytes, an answer is a number
-//! and eight outcome numbers. `Library` is that interface; `Reference` gives it over this second implementation.
+//! The library's interface for C and Rust, as include/reidhintsje.h says it: a map is a lent table of 132 bytes, an
+//! answer is a number and eight outcome numbers. `Library` is that interface; `Reference` gives it over this second implementation.
 
 use crate::aplx;
 use crate::bytes::{le32, put_le32};
@@ -14,8 +14,15 @@ pub const TABLE: usize = 132;
 
 pub type Outcome = [u64; 8];
 
+/// The five numbers of an identity.
+pub type Numbers = [u32; 5];
+
+/// All rights; a rights word over this has a bit without a meaning.
+const ALL_RIGHTS: u32 = 7;
+
 pub trait Library {
     fn map_add(&self, map: &mut [u8], base: u32, length: u32, place: u32, rights: u32) -> u32;
+    fn map_sound(&self, map: &[u8], memory_length: usize) -> u32;
     fn srom_load(
         &self,
         map: &[u8],
@@ -29,7 +36,7 @@ pub trait Library {
         &self,
         map: &[u8],
         memory: &mut [u8],
-        identity: Identity,
+        identity: &Numbers,
         packet: &[u8],
         output: &mut [u8],
         outcome: &mut Outcome,
@@ -39,17 +46,20 @@ pub trait Library {
     fn pack_aplx(&self, plan: &[u8], output: &mut [u8], outcome: &mut Outcome) -> u32;
 }
 
-/// The map that a table holds. None: not 132 bytes, or more regions than a map has. Such a table is no sound map.
+/// The map that a table holds. None: not 132 bytes, more regions than a map has, or a region in use with a rights
+/// word over 7. Such a table is no sound map.
 pub fn map_of(table: &[u8]) -> Option<Map> {
     if table.len() != TABLE || le32(table, 0) as usize > MOST_REGIONS {
         return None;
     }
-    let regions = (0..le32(table, 0) as usize)
-        .map(|index| {
-            let [base, length, place, rights] = [0, 4, 8, 12].map(|k| le32(table, 4 + 16 * index + k));
-            Region { base, length, place, rights: Rights::from_number(rights) }
-        })
-        .collect();
+    let mut regions = Vec::new();
+    for index in 0..le32(table, 0) as usize {
+        let [base, length, place, rights] = [0, 4, 8, 12].map(|k| le32(table, 4 + 16 * index + k));
+        if rights > ALL_RIGHTS {
+            return None;
+        }
+        regions.push(Region { base, length, place, rights: Rights::from_number(rights) });
+    }
     Some(Map { regions })
 }
 
@@ -60,8 +70,8 @@ pub fn table_of(map: &Map) -> Vec<u8> {
     table
 }
 
-/// Writes a map over a table. A region past the count keeps its words, but of the rights the three bits that say
-/// something: the header says that a taken addition clears the higher bits in all eight regions.
+/// Writes a map over a table. A region past the count keeps its words, but of the rights the three bits that have a
+/// meaning.
 fn write_map(table: &mut [u8], map: &Map) {
     put_le32(table, 0, map.regions.len() as u32);
     for (index, region) in map.regions.iter().enumerate() {
@@ -77,7 +87,42 @@ fn write_map(table: &mut [u8], map: &Map) {
     }
 }
 
-fn entry_number(entry: Entry) -> u64 {
+/// What happened, by the header's numbers.
+pub mod event {
+    pub const REFUSED: u64 = 0;
+    pub const END: u64 = 1;
+    pub const UNKNOWN: u64 = 2;
+    pub const RUN: u64 = 3;
+    pub const START: u64 = 4;
+    pub const RESPONSE: u64 = 5;
+    pub const SILENT: u64 = 6;
+    pub const READ: u64 = 7;
+    pub const PACKED: u64 = 8;
+}
+
+/// Where each number stands in the outcome, by the header.
+pub mod at {
+    pub const REFUSAL: usize = 0;
+    pub const PLACE: usize = 1;
+    pub const EVENT: usize = 2;
+    pub const KIND: usize = 3;
+    pub const ADDRESS: usize = 4;
+    pub const RESUME: usize = 5;
+    pub const ITEMS: usize = 6;
+    pub const BYTES: usize = 7;
+}
+
+/// The outcome of an event; the named numbers are set, and all others are 0.
+fn outcome_of(event: u64, named: &[(usize, u64)]) -> Outcome {
+    let mut numbers = [0; 8];
+    numbers[at::EVENT] = event;
+    for (index, number) in named {
+        numbers[*index] = *number;
+    }
+    numbers
+}
+
+fn kind_number(entry: Entry) -> u64 {
     match entry {
         Entry::Arm => 1,
         Entry::Thumb => 2,
@@ -85,7 +130,21 @@ fn entry_number(entry: Entry) -> u64 {
 }
 
 fn refusal_numbers(refusal: Refusal) -> Outcome {
-    [u64::from(refusal.number), refusal.place, 0, 0, 0, 0, 0, 0]
+    outcome_of(event::REFUSED, &[(at::REFUSAL, u64::from(refusal.number)), (at::PLACE, refusal.place)])
+}
+
+/// A refusal by a call that needs an output of so many bytes.
+fn output_refusal(refusal: Refusal, needed: u64) -> Outcome {
+    let mut numbers = refusal_numbers(refusal);
+    if refusal.number == 10 {
+        numbers[at::BYTES] = needed;
+    }
+    numbers
+}
+
+fn run_numbers(event: u64, entry: Entry, address: u32, resume: u64) -> Outcome {
+    let kind = (at::KIND, kind_number(entry));
+    outcome_of(event, &[kind, (at::ADDRESS, u64::from(address)), (at::RESUME, resume)])
 }
 
 /// The outcome numbers of a load.
@@ -94,23 +153,29 @@ pub fn load_numbers(answer: Answer) -> Outcome {
         Err(refusal) => return refusal_numbers(refusal),
         Ok(loaded) => loaded,
     };
-    let (place, kind, value, resume) = match stop {
-        Stop::End { place } => (place, 1, 0, 0),
-        Stop::Unknown { command, place } => (place, 2, u64::from(command), 0),
-        Stop::Run { entry, address, resume } => (0, 2 + entry_number(entry), u64::from(address), resume),
+    let mut numbers = match stop {
+        Stop::End { place } => outcome_of(event::END, &[(at::PLACE, place)]),
+        Stop::Unknown { command, place } => {
+            outcome_of(event::UNKNOWN, &[(at::PLACE, place), (at::ADDRESS, u64::from(command))])
+        }
+        Stop::Run { entry, address, resume } => run_numbers(event::RUN, entry, address, resume),
     };
-    [0, place, kind, value, resume, taken, stored, 0]
+    numbers[at::ITEMS] = taken;
+    numbers[at::BYTES] = stored;
+    numbers
 }
 
 /// The load that outcome numbers tell; None where they tell none.
 pub fn load_of(numbers: &Outcome) -> Option<Answer> {
-    let [number, place, kind, value, resume, taken, stored, _] = *numbers;
-    let stop = match kind {
-        0 => return Some(Err(Refusal { number: number as u32, place })),
-        1 => Stop::End { place },
-        2 => Stop::Unknown { command: value as u32, place },
-        3 => Stop::Run { entry: Entry::Arm, address: value as u32, resume },
-        4 => Stop::Run { entry: Entry::Thumb, address: value as u32, resume },
+    let [number, place, event, kind, address, resume, taken, stored] = *numbers;
+    let stop = match event {
+        event::REFUSED => return Some(Err(Refusal { number: number as u32, place })),
+        event::END => Stop::End { place },
+        event::UNKNOWN => Stop::Unknown { command: address as u32, place },
+        event::RUN => {
+            let entry = if kind == 1 { Entry::Arm } else { Entry::Thumb };
+            Stop::Run { entry, address: address as u32, resume }
+        }
         _ => return None,
     };
     let answer = Ok(Loaded { stop, taken, stored });
@@ -119,29 +184,51 @@ pub fn load_of(numbers: &Outcome) -> Option<Answer> {
 
 fn reply_numbers(reply: Result<Reply, Refusal>) -> Outcome {
     match reply {
-        Err(refusal) => refusal_numbers(refusal),
-        Ok(Reply::Silence) => [0; 8],
-        Ok(Reply::Response(length)) => [0, 0, 1, length as u64, 0, 0, 0, 0],
-        Ok(Reply::Run { entry, address }) => {
-            [0, 0, 2, 0, entry_number(entry), u64::from(address), 0, 0]
-        }
-        Ok(Reply::LoadedRun { entry, address, resume }) => {
-            [0, 0, 3, 0, entry_number(entry), u64::from(address), resume, 0]
-        }
+        Err(refusal) => output_refusal(refusal, scp::LARGEST as u64),
+        Ok(Reply::Silence) => outcome_of(event::SILENT, &[]),
+        Ok(Reply::Response(length)) => outcome_of(event::RESPONSE, &[(at::BYTES, length as u64)]),
+        Ok(Reply::Run { entry, address }) => run_numbers(event::START, entry, address, 0),
+        Ok(Reply::LoadedRun { entry, address, resume }) => run_numbers(event::RUN, entry, address, resume),
     }
 }
 
-fn size_numbers(size: Result<u64, Refusal>) -> Outcome {
-    match size {
+fn read_numbers(count: Result<u64, Refusal>) -> Outcome {
+    match count {
         Err(refusal) => refusal_numbers(refusal),
-        Ok(size) => [0, 0, size, 0, 0, 0, 0, 0],
+        Ok(count) => outcome_of(event::READ, &[(at::ITEMS, count)]),
+    }
+}
+
+/// The outcome numbers of a plan that was packed as an image of so many bytes.
+pub fn packed_numbers(size: u64) -> Outcome {
+    outcome_of(event::PACKED, &[(at::BYTES, size)])
+}
+
+/// Of a plan that was packed or refused; `needed` is the length of its image, asked only where it did not fit.
+fn pack_numbers(size: Result<u64, Refusal>, needed: impl FnOnce() -> u64) -> Outcome {
+    match size {
+        Ok(size) => packed_numbers(size),
+        Err(refusal) if refusal.number == 10 => output_refusal(refusal, needed()),
+        Err(refusal) => refusal_numbers(refusal),
     }
 }
 
 /// Fills the lent outcome, and returns the refusal number.
 fn give(outcome: &mut Outcome, numbers: Outcome) -> u32 {
     *outcome = numbers;
-    numbers[0] as u32
+    numbers[at::REFUSAL] as u32
+}
+
+/// The identity of five numbers: of each only as many bits count as its field has.
+pub fn identity_of(numbers: &Numbers) -> Identity {
+    let [point_to_point, physical, virtual_cpu, version, date] = *numbers;
+    Identity {
+        point_to_point: point_to_point as u16,
+        physical: physical as u8,
+        virtual_cpu: virtual_cpu as u8,
+        version: version as u16,
+        date,
+    }
 }
 
 const NO_MAP: Refusal = Refusal { number: 1, place: 0 };
@@ -151,6 +238,9 @@ pub struct Reference;
 
 impl Library for Reference {
     fn map_add(&self, table: &mut [u8], base: u32, length: u32, place: u32, rights: u32) -> u32 {
+        if rights > ALL_RIGHTS {
+            return 1;
+        }
         let Some(mut map) = map_of(table) else { return 1 };
         let region = Region { base, length, place, rights: Rights::from_number(rights) };
         match map.add(region) {
@@ -160,6 +250,10 @@ impl Library for Reference {
             }
             Err(refusal) => refusal.number,
         }
+    }
+
+    fn map_sound(&self, map: &[u8], memory_length: usize) -> u32 {
+        u32::from(!map_of(map).is_some_and(|map| map.sound(memory_length)))
     }
 
     fn srom_load(
@@ -189,13 +283,13 @@ impl Library for Reference {
         &self,
         map: &[u8],
         memory: &mut [u8],
-        identity: Identity,
+        identity: &Numbers,
         packet: &[u8],
         output: &mut [u8],
         outcome: &mut Outcome,
     ) -> u32 {
         let reply = match map_of(map) {
-            Some(map) => scp::answer(&map, memory, identity, packet, output),
+            Some(map) => scp::answer(&map, memory, identity_of(identity), packet, output),
             // 10 is tested before the map.
             None if output.len() < scp::LARGEST => Err(Refusal { number: 10, place: 0 }),
             None => Err(NO_MAP),
@@ -210,14 +304,16 @@ impl Library for Reference {
             _ => plan::NO_UNIT,
         };
         let count = plan::read(plan, unit).map(|pieces| pieces.len() as u64);
-        give(outcome, size_numbers(count))
+        give(outcome, read_numbers(count))
     }
 
     fn pack_srom(&self, plan: &[u8], output: &mut [u8], outcome: &mut Outcome) -> u32 {
-        give(outcome, size_numbers(pack::pack_srom(plan, output)))
+        let needed = || plan::read(plan, plan::SROM_UNIT).map_or(0, |pieces| pack::srom_length(&pieces));
+        give(outcome, pack_numbers(pack::pack_srom(plan, output), needed))
     }
 
     fn pack_aplx(&self, plan: &[u8], output: &mut [u8], outcome: &mut Outcome) -> u32 {
-        give(outcome, size_numbers(pack::pack_aplx(plan, output)))
+        let needed = || plan::read(plan, plan::APLX_UNIT).map_or(0, |pieces| pack::aplx_length(&pieces));
+        give(outcome, pack_numbers(pack::pack_aplx(plan, output), needed))
     }
 }

@@ -1,13 +1,13 @@
 //! The project's static library behind the interface. A slice is a pointer and a length.
 
-use reference::interface::{Library, Outcome};
-use reference::scp::Identity;
+use reference::interface::{Library, Numbers, Outcome};
 
 extern "C" {
     fn reidhintsje_map_add(
         map: *mut u8, map_length: usize,
         base: u32, length: u32, place: u32, rights: u32,
     ) -> u32;
+    fn reidhintsje_map_sound(map: *const u8, map_length: usize, memory_length: usize) -> u32;
     fn reidhintsje_srom_load(
         map: *const u8, map_length: usize,
         memory: *mut u8, memory_length: usize,
@@ -24,7 +24,7 @@ extern "C" {
     fn reidhintsje_scp_answer(
         map: *const u8, map_length: usize,
         memory: *mut u8, memory_length: usize,
-        point_to_point: u16, physical_cpu: u8, virtual_cpu: u8, version: u16, date: u32,
+        identity: *const u32,
         packet: *const u8, packet_length: usize,
         output: *mut u8, output_length: usize,
         outcome: *mut u64,
@@ -51,6 +51,10 @@ pub struct Linked;
 impl Library for Linked {
     fn map_add(&self, map: &mut [u8], base: u32, length: u32, place: u32, rights: u32) -> u32 {
         unsafe { reidhintsje_map_add(map.as_mut_ptr(), map.len(), base, length, place, rights) }
+    }
+
+    fn map_sound(&self, map: &[u8], memory_length: usize) -> u32 {
+        unsafe { reidhintsje_map_sound(map.as_ptr(), map.len(), memory_length) }
     }
 
     fn srom_load(
@@ -87,7 +91,7 @@ impl Library for Linked {
         &self,
         map: &[u8],
         memory: &mut [u8],
-        identity: Identity,
+        identity: &Numbers,
         packet: &[u8],
         output: &mut [u8],
         outcome: &mut Outcome,
@@ -96,8 +100,7 @@ impl Library for Linked {
             reidhintsje_scp_answer(
                 map.as_ptr(), map.len(),
                 memory.as_mut_ptr(), memory.len(),
-                identity.point_to_point, identity.physical, identity.virtual_cpu,
-                identity.version, identity.date,
+                identity.as_ptr(),
                 packet.as_ptr(), packet.len(),
                 output.as_mut_ptr(), output.len(),
                 outcome.as_mut_ptr(),

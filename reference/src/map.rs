@@ -24,7 +24,7 @@ pub enum Right {
 }
 
 impl Rights {
-    /// 1 is read, 2 write, 4 run; higher bits are ignored.
+    /// 1 is read, 2 write, 4 run; a number over 7 is refused before.
     pub fn from_number(number: u32) -> Rights {
         Rights { read: number & 1 != 0, write: number & 2 != 0, run: number & 4 != 0 }
     }

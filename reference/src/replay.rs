@@ -8,7 +8,6 @@ use reference::bytes::hex;
 use reference::interface::{map_of, Library, Outcome, Reference};
 use reference::map::{Map, Right};
 use reference::outcome::Entry;
-use reference::scp::Identity;
 use reference::text::{read_call, Buffers};
 
 /// The longest range that a map can be asked for, so that no sum of an address and a length wraps.
@@ -24,8 +23,8 @@ fn call<'a>(name: &str, n: &[u64], buffers: &'a mut Buffers) -> Option<(Vec<u64>
             return Some((vec![u64::from(number)], vec![table]));
         }
         "map_sound" => {
-            let sound = map_of(table).is_some_and(|map| map.sound(n[0] as usize));
-            return Some((vec![u64::from(!sound)], vec![]));
+            let number = Reference.map_sound(table, n[0] as usize);
+            return Some((vec![u64::from(number)], vec![]));
         }
         "lookup" => return Some((lookup(&map_of(table).unwrap_or_default(), n)?, vec![])),
         "run_entry" => {
@@ -45,14 +44,8 @@ fn call<'a>(name: &str, n: &[u64], buffers: &'a mut Buffers) -> Option<(Vec<u64>
             (number, vec![memory])
         }
         "scp_answer" => {
-            let identity = Identity {
-                point_to_point: n[0] as u16,
-                physical: n[1] as u8,
-                virtual_cpu: n[2] as u8,
-                version: n[3] as u16,
-                date: n[4] as u32,
-            };
-            let number = Reference.scp_answer(table, memory, identity, input, output, &mut outcome);
+            let identity = [0, 1, 2, 3, 4].map(|k| n[k] as u32);
+            let number = Reference.scp_answer(table, memory, &identity, input, output, &mut outcome);
             (number, vec![memory, output])
         }
         "plan_read" => (Reference.plan_read(input, n[0] as u32, &mut outcome), vec![]),

@@ -2,8 +2,8 @@
 
 use std::collections::BTreeMap;
 
-use crate::bytes::le16;
-use crate::interface::Outcome;
+use crate::bytes::{le16, le32};
+use crate::interface::{at, event, map_of, Numbers, Outcome, TABLE};
 use crate::scp;
 
 #[derive(Default)]
@@ -37,23 +37,32 @@ impl Tally {
     }
 }
 
+/// The kind of a run.
+fn entry(numbers: &Outcome) -> &'static str {
+    match numbers[at::KIND] {
+        1 => "ARM",
+        2 => "Thumb",
+        _ => "?",
+    }
+}
+
 /// What a load came to.
 pub fn load_kind(numbers: &Outcome) -> String {
-    match (numbers[0], numbers[2]) {
-        (0, 1) => "stop end".to_string(),
-        (0, 2) => "stop unknown".to_string(),
-        (0, 3) => "stop run ARM".to_string(),
-        (0, 4) => "stop run Thumb".to_string(),
-        (number, _) => refused(number),
+    match numbers[at::EVENT] {
+        event::REFUSED => refused(numbers[at::REFUSAL]),
+        event::END => "stop end".to_string(),
+        event::UNKNOWN => "stop unknown".to_string(),
+        event::RUN => format!("stop run {}", entry(numbers)),
+        other => format!("event {other}"),
     }
 }
 
 /// How many entries or blocks an accepted load took.
 pub fn taken_kind(numbers: &Outcome) -> Option<String> {
-    if numbers[0] != 0 {
+    if numbers[at::EVENT] == event::REFUSED {
         return None;
     }
-    Some(match numbers[5] {
+    Some(match numbers[at::ITEMS] {
         few @ (0 | 1) => format!("taken {few}"),
         255 => "taken 255".to_string(),
         _ => "taken 2 or more".to_string(),
@@ -73,10 +82,10 @@ pub fn memory_kind(length: usize) -> String {
 
 /// What an SCP packet came to, with the command's name and the response's code.
 pub fn reply_kind(numbers: &Outcome, packet: &[u8], output: &[u8]) -> String {
-    let kind = |number| if number == 1 { "ARM" } else { "Thumb" };
-    match (numbers[0], numbers[2]) {
-        (0, 0) => "no response".to_string(),
-        (0, 1) => {
+    match numbers[at::EVENT] {
+        event::REFUSED => refused(numbers[at::REFUSAL]),
+        event::SILENT => "no response".to_string(),
+        event::RESPONSE => {
             let command = match le16(packet, 0) {
                 scp::VER => "VER",
                 scp::RUN => "RUN",
@@ -94,9 +103,42 @@ pub fn reply_kind(numbers: &Outcome, packet: &[u8], output: &[u8]) -> String {
             };
             format!("response {command} {code}")
         }
-        (0, 2) => format!("run by RUN {}", kind(numbers[4])),
-        (0, 3) => format!("run by APLX {}", kind(numbers[4])),
-        (number, _) => refused(number),
+        event::START => format!("run by RUN {}", entry(numbers)),
+        event::RUN => format!("run by APLX {}", entry(numbers)),
+        other => format!("event {other}"),
+    }
+}
+
+/// Whether an identity has bits that do not count.
+pub fn identity_kind(identity: &Numbers) -> &'static str {
+    let [point_to_point, physical, virtual_cpu, version, _] = *identity;
+    if point_to_point > 0xffff || physical > 0xff || virtual_cpu > 0xff || version > 0xffff {
+        "identity over its fields"
+    } else {
+        "identity in its fields"
+    }
+}
+
+/// The rights of a region that is added.
+pub fn rights_kind(number: u32, rights: u32) -> String {
+    let class = if rights > 7 { "rights over 7" } else { "rights to 7" };
+    format!("{class}, {}", number_kind(u64::from(number)))
+}
+
+/// Why a table is no sound map, or that it is one.
+pub fn table_kind(number: u32, table: &[u8]) -> &'static str {
+    let unknown = |mut regions: std::ops::Range<usize>| {
+        table.len() == TABLE && regions.any(|index| le32(table, 16 + 16 * index) > 7)
+    };
+    let count = if table.len() == TABLE { le32(table, 0).min(8) as usize } else { 0 };
+    match number {
+        0 if unknown(count..8) => "sound, rights over 7 unused",
+        0 => "sound",
+        _ if table.len() != TABLE => "another length",
+        _ if le32(table, 0) > 8 => "over 8 regions",
+        _ if unknown(0..count) => "rights over 7 in use",
+        _ if map_of(table).is_some_and(|map| map.lawful()) => "ends past memory",
+        _ => "another rule",
     }
 }
 
@@ -119,6 +161,7 @@ pub fn required() -> Vec<(&'static str, String)> {
         all.extend(list.iter().map(|number| (call, number_kind(*number))));
     };
     numbers("map_add", &[0, 1]);
+    numbers("map_sound", &[0, 1]);
     numbers("srom_load", &[1, 2, 3, 4, 9, 13]);
     numbers("aplx_load", &[1, 3, 4, 5, 6, 7, 8, 9]);
     numbers("scp_answer", &[1, 10]);
@@ -132,6 +175,10 @@ pub fn required() -> Vec<(&'static str, String)> {
     let mut words = |call, list: &[&str]| {
         all.extend(list.iter().map(|what| (call, what.to_string())));
     };
+    words("map_add", &["rights over 7, refused  1", "rights to 7, accepted", "rights to 7, refused  1"]);
+    words("map_sound", &["sound", "sound, rights over 7 unused", "another length", "over 8 regions"]);
+    words("map_sound", &["rights over 7 in use", "ends past memory", "another rule"]);
+    words("scp_answer", &["identity in its fields", "identity over its fields"]);
     words("srom_load", &["stop end", "stop run ARM", "stop run Thumb"]);
     words("aplx_load", &["stop end", "stop unknown", "stop run ARM", "stop run Thumb"]);
     for taken in ["taken 0", "taken 1", "taken 2 or more"] {

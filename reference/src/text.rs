@@ -21,8 +21,6 @@ pub enum Kind {
 
 use Kind::{Input, Memory, Number, Output, Table};
 
-const BYTE: Kind = Number(u8::MAX as u64);
-const HALF: Kind = Number(u16::MAX as u64);
 const WORD: Kind = Number(u32::MAX as u64);
 const LONG: Kind = Number(u64::MAX);
 
@@ -32,7 +30,7 @@ fn kinds(name: &str) -> Option<&'static [Kind]> {
         "map_add" => &[Table, WORD, WORD, WORD, WORD],
         "srom_load" => &[Table, Memory, Input, LONG],
         "aplx_load" => &[Table, Memory, WORD],
-        "scp_answer" => &[Table, Memory, HALF, BYTE, BYTE, HALF, WORD, Input, Output],
+        "scp_answer" => &[Table, Memory, WORD, WORD, WORD, WORD, WORD, Input, Output],
         "plan_read" => &[Input, WORD],
         "pack_srom" | "pack_aplx" => &[Input, Output],
         "map_sound" => &[Table, LONG],

@@ -10,8 +10,7 @@ use reference::generate::{case_of, Call, Case, Size};
 use reference::interface::{table_of, Library, Outcome, Reference};
 use reference::map::{Map, Region, Rights};
 use reference::random::Random;
-use reference::scp::Identity;
-use reference::tally::{load_kind, number_kind, reply_kind, required, Tally};
+use reference::tally::{load_kind, number_kind, reply_kind, required, rights_kind, table_kind, Tally};
 use reference::text::write_bytes;
 
 /// The first line of the file.
@@ -31,6 +30,8 @@ fn beyond(call: &str, what: &str) -> bool {
     call.starts_with("series")
         || what.starts_with("memory")
         || what.starts_with("taken")
+        || what.starts_with("identity")
+        || (call == "map_sound" && (what == "accepted" || what.starts_with("refused")))
         || (call == "srom_load" && what == "refused 13")
         || (call == "aplx_load" && what == "refused  7")
 }
@@ -95,12 +96,20 @@ impl Vectors {
                         .number(u64::from(rights));
                     let number = Reference.map_add(&mut table, base, length, place, rights);
                     wanted |= self.wants("map_add", number_kind(u64::from(number)));
+                    wanted |= self.wants("map_add", rights_kind(number, rights));
                     records.push(record);
                 }
                 if wanted {
                     for record in records {
                         self.write(record);
                     }
+                }
+            }
+            Case::MapSound { table, memory_length } => {
+                let number = Reference.map_sound(table, *memory_length);
+                if self.wants("map_sound", table_kind(number, table).to_string()) || always {
+                    let record = Record::new("map_sound").slice(table).number(*memory_length as u64);
+                    self.write(record);
                 }
             }
             Case::SromLoad { table, memory, rom, offset } => {
@@ -123,20 +132,14 @@ impl Vectors {
             Case::ScpAnswer { table, memory, identity, packet, output } => {
                 let (mut after, mut answered) = (memory.clone(), output.clone());
                 Reference.scp_answer(
-                    table, &mut after, *identity, packet, &mut answered, &mut outcome,
+                    table, &mut after, identity, packet, &mut answered, &mut outcome,
                 );
                 if self.wants("scp_answer", reply_kind(&outcome, packet, &answered)) || always {
-                    let record = Record::new("scp_answer")
-                        .slice(table)
-                        .slice(memory)
-                        .number(u64::from(identity.point_to_point))
-                        .number(u64::from(identity.physical))
-                        .number(u64::from(identity.virtual_cpu))
-                        .number(u64::from(identity.version))
-                        .number(u64::from(identity.date))
-                        .slice(packet)
-                        .slice(output);
-                    self.write(record);
+                    let mut record = Record::new("scp_answer").slice(table).slice(memory);
+                    for number in identity {
+                        record = record.number(u64::from(*number));
+                    }
+                    self.write(record.slice(packet).slice(output));
                 }
             }
             Case::PlanRead { plan, target } => {
@@ -233,7 +236,7 @@ fn weighed() -> Vec<Case> {
         cases.push(Case::ScpAnswer {
             table: table(&[[0, 300, 0, 1]]),
             memory: (0..300).map(|k| k as u8).collect(),
-            identity: Identity { point_to_point: 258, physical: 3, virtual_cpu: 4, version: 129, date: 5 },
+            identity: [258, 3, 4, 129, 5],
             packet,
             output: vec![0x77; 272],
         });
@@ -270,6 +273,7 @@ fn main() {
     let mut random = Random::new(SEED);
     for call in [
         Call::MapAdd,
+        Call::MapSound,
         Call::SromLoad,
         Call::AplxLoad,
         Call::ScpAnswer,

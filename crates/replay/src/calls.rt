@@ -68,14 +68,14 @@ fn kind(kinds: &[u8], index: usize) -> u8 {
     if index < kinds.len() { kinds[index] } else { 0 }
 }
 
-// The kind of a call's argument: t a table, m a memory, i an input (a rom, a packet or a plan), o an output, 1, 2, 4, 8 a number of so many bytes,
+// The kind of a call's argument: t a table, m a memory, i an input (a rom, a packet or a plan), o an output, 4 and 8 a number of so many bytes,
 // r a right; 0 behind the last one, and n where there is no such call.
 fn kind_of(call: u32, index: usize) -> u8 {
     match call {
         1 => kind(b"t4444", index),
         2 => kind(b"tmi8", index),
         3 => kind(b"tm4", index),
-        4 => kind(b"tm21124io", index),
+        4 => kind(b"tm44444io", index),
         5 => kind(b"i4", index),
         6 => kind(b"io", index),
         7 => kind(b"io", index),
@@ -89,8 +89,6 @@ fn kind_of(call: u32, index: usize) -> u8 {
 // The largest number of a kind.
 fn most_of(kind: u8) -> usize {
     match kind {
-        b'1' => 255,
-        b'2' => 65535,
         b'4' => 4294967295,
         _ => 18446744073709551615,
     }

@@ -1,20 +1,12 @@
 // The calls of the library for C, each with the numbers at the indices of its arguments.
 use crate::output;
 
-fn byte(n: usize) -> u8 {
-    (n % 256) as u8
-}
-
-fn half(n: usize) -> u16 {
-    (n % 65536) as u16
-}
-
 pub(crate) fn word(n: usize) -> u32 {
     (n % 4294967296) as u32
 }
 
 pub(crate) fn map_add(numbers: [usize; 9], table: &mut [u8]) {
-    let answer = c_api::table::reidhintsje_map_add(
+    let answer = reidhintsje::table::reidhintsje_map_add(
         table,
         word(numbers[1]),
         word(numbers[2]),
@@ -25,16 +17,32 @@ pub(crate) fn map_add(numbers: [usize; 9], table: &mut [u8]) {
     output::bytes(table);
 }
 
+pub(crate) fn map_sound(numbers: [usize; 9], table: &[u8]) {
+    let answer = reidhintsje::table::reidhintsje_map_sound(table, numbers[1]);
+    output::one(answer as u64);
+}
+
 pub(crate) fn srom_load(numbers: [usize; 9], table: &[u8], memory: &mut [u8], rom: &[u8]) {
     let mut outcome = [0u64; 8];
-    let answer = c_api::load::reidhintsje_srom_load(table, memory, rom, numbers[3], &mut outcome);
+    let answer = reidhintsje::load::reidhintsje_srom_load(
+        table,
+        memory,
+        rom,
+        numbers[3],
+        &mut outcome,
+    );
     output::numbers(answer, outcome);
     output::bytes(memory);
 }
 
 pub(crate) fn aplx_load(numbers: [usize; 9], table: &[u8], memory: &mut [u8]) {
     let mut outcome = [0u64; 8];
-    let answer = c_api::load::reidhintsje_aplx_load(table, memory, word(numbers[2]), &mut outcome);
+    let answer = reidhintsje::load::reidhintsje_aplx_load(
+        table,
+        memory,
+        word(numbers[2]),
+        &mut outcome,
+    );
     output::numbers(answer, outcome);
     output::bytes(memory);
 }
@@ -46,15 +54,18 @@ pub(crate) fn scp_answer(
     packet: &[u8],
     out: &mut [u8],
 ) {
+    let identity = [
+        word(numbers[2]),
+        word(numbers[3]),
+        word(numbers[4]),
+        word(numbers[5]),
+        word(numbers[6]),
+    ];
     let mut outcome = [0u64; 8];
-    let answer = c_api::packet::reidhintsje_scp_answer(
+    let answer = reidhintsje::packet::reidhintsje_scp_answer(
         table,
         memory,
-        half(numbers[2]),
-        byte(numbers[3]),
-        byte(numbers[4]),
-        half(numbers[5]),
-        word(numbers[6]),
+        &identity,
         packet,
         out,
         &mut outcome,
@@ -66,20 +77,20 @@ pub(crate) fn scp_answer(
 
 pub(crate) fn plan_read(numbers: [usize; 9], plan: &[u8]) {
     let mut outcome = [0u64; 8];
-    let answer = c_api::plans::reidhintsje_plan_read(plan, word(numbers[1]), &mut outcome);
+    let answer = reidhintsje::plans::reidhintsje_plan_read(plan, word(numbers[1]), &mut outcome);
     output::numbers(answer, outcome);
 }
 
 pub(crate) fn pack_srom(plan: &[u8], out: &mut [u8]) {
     let mut outcome = [0u64; 8];
-    let answer = c_api::plans::reidhintsje_pack_srom(plan, out, &mut outcome);
+    let answer = reidhintsje::plans::reidhintsje_pack_srom(plan, out, &mut outcome);
     output::numbers(answer, outcome);
     output::bytes(out);
 }
 
 pub(crate) fn pack_aplx(plan: &[u8], out: &mut [u8]) {
     let mut outcome = [0u64; 8];
-    let answer = c_api::plans::reidhintsje_pack_aplx(plan, out, &mut outcome);
+    let answer = reidhintsje::plans::reidhintsje_pack_aplx(plan, out, &mut outcome);
     output::numbers(answer, outcome);
     output::bytes(out);
 }

@@ -27,7 +27,7 @@ fn made(
         5 => library::plan_read(numbers, input),
         6 => library::pack_srom(input, out),
         7 => library::pack_aplx(input, out),
-        8 => maps::map_sound(numbers, table),
+        8 => library::map_sound(numbers, table),
         9 => maps::lookup(numbers, table),
         _ => maps::run_entry(numbers, table),
     }

@@ -1,20 +1,11 @@
 // The questions that a map alone answers. The library for C has no call for them.
 use crate::library::word;
 use crate::output;
-use c_api::table::map_of;
 use memory_map::map::Found;
 use memory_map::map::RunEntry;
 use memory_region::region::Right;
 use outcome::answer::Entry;
-
-pub(crate) fn map_sound(numbers: [usize; 9], table: &[u8]) {
-    let map = map_of(table);
-    if map.sound(numbers[1]) {
-        output::one(0);
-    } else {
-        output::one(1);
-    }
-}
+use reidhintsje::table::map_of;
 
 fn right_of(number: usize) -> Right {
     if number == 1 {

@@ -74,22 +74,24 @@ pub fn scene_of(random: &mut Random, map: Map, mut memory: Vec<u8>) -> Scene {
     Scene { map, table, memory }
 }
 
-/// The table of a map; now and then with bits that are ignored and bytes that have no meaning.
+/// The table of a map; now and then with bytes past the count, which have no meaning.
 fn dressed(random: &mut Random, map: &Map) -> Vec<u8> {
     let mut table = table_of(map);
     if random.once_in(5) {
-        for index in 0..8 {
-            let rights = 16 + 16 * index;
-            if index < map.regions.len() {
-                let word = le32(&table, rights) | (random.word() & !7);
-                put_le32(&mut table, rights, word);
-            } else {
-                let junk = random.bytes(16);
-                table[4 + 16 * index..20 + 16 * index].copy_from_slice(&junk);
-            }
-        }
+        let past = 4 + 16 * map.regions.len();
+        let junk = random.bytes(TABLE - past);
+        table[past..].copy_from_slice(&junk);
     }
     table
+}
+
+/// A rights word that has a bit without a meaning.
+fn unknown_rights(random: &mut Random, known: u32) -> u32 {
+    match random.below(3) {
+        0 => 8,
+        1 => known | 8 << random.below(29),
+        _ => known | random.word() | 0x100,
+    }
 }
 
 /// A map that is sound for a buffer of so many bytes.
@@ -171,7 +173,11 @@ fn break_table(random: &mut Random, table: &mut [u8], memory: &mut Vec<u8>) {
     }
     let at = 4 + 16 * random.below(count);
     let [base, length, place] = [0, 4, 8].map(|k| le32(table, at + k));
-    match random.below(8) {
+    match random.below(10) {
+        8 | 9 => {
+            let rights = unknown_rights(random, le32(table, at + 12));
+            put_le32(table, at + 12, rights);
+        }
         0 => put_le32(table, at, base.wrapping_add(random.between(1, 3) as u32)),
         1 => put_le32(table, at + 4, length + random.between(1, 3) as u32),
         2 => put_le32(table, at + 4, random.pick(&[0, LONGEST_REGION + 4, u32::MAX, u32::MAX - 3])),
@@ -223,6 +229,20 @@ pub fn additions(random: &mut Random) -> Case {
     Case::MapAdd { table, additions }
 }
 
+/// A table beside a length of memory: where its regions end, one byte less or more, or far from it.
+pub fn soundness(random: &mut Random, size: Size) -> Case {
+    let Scene { map, table, memory } = scene(random, size);
+    let end = map.regions.iter().map(Region::place_end).max().unwrap_or(0) as usize;
+    let memory_length = match random.below(8) {
+        0 => end,
+        1 => end.saturating_sub(1),
+        2 => end + 1,
+        3 => random.pick(&[0, usize::MAX, 1 << 32, u32::MAX as usize]),
+        _ => memory.len(),
+    };
+    Case::MapSound { table, memory_length }
+}
+
 /// One region: near those of a map, or at a limit, with one thing wrong now and then.
 fn addition(random: &mut Random, map: &Map) -> [u32; 4] {
     let length = match random.below(8) {
@@ -236,8 +256,8 @@ fn addition(random: &mut Random, map: &Map) -> [u32; 4] {
         let old = random.pick(&map.regions);
         region = [old.base, old.length, old.place, old.rights.number()];
     }
-    if random.once_in(4) {
-        region[3] = random.word();
+    if random.once_in(8) {
+        region[3] = unknown_rights(random, region[3]);
     }
     if random.once_in(3) {
         match random.below(9) {

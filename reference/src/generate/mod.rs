@@ -9,8 +9,8 @@ mod stretches;
 
 pub use maps::Scene;
 
+use crate::interface::Numbers;
 use crate::random::Random;
-use crate::scp::Identity;
 use crate::series::{Medium, Step};
 
 /// One input.
@@ -18,9 +18,10 @@ use crate::series::{Medium, Step};
 pub enum Case {
     /// Additions one after the other to one table: base, length, place, rights.
     MapAdd { table: Vec<u8>, additions: Vec<[u32; 4]> },
+    MapSound { table: Vec<u8>, memory_length: usize },
     SromLoad { table: Vec<u8>, memory: Vec<u8>, rom: Vec<u8>, offset: usize },
     AplxLoad { table: Vec<u8>, memory: Vec<u8>, header: u32 },
-    ScpAnswer { table: Vec<u8>, memory: Vec<u8>, identity: Identity, packet: Vec<u8>, output: Vec<u8> },
+    ScpAnswer { table: Vec<u8>, memory: Vec<u8>, identity: Numbers, packet: Vec<u8>, output: Vec<u8> },
     PlanRead { plan: Vec<u8>, target: u32 },
     PackSrom { plan: Vec<u8>, output: Vec<u8> },
     PackAplx { plan: Vec<u8>, output: Vec<u8> },
@@ -39,6 +40,7 @@ pub enum Size {
 #[derive(Clone, Copy, Debug, PartialEq, Eq)]
 pub enum Call {
     MapAdd,
+    MapSound,
     SromLoad,
     AplxLoad,
     ScpAnswer,
@@ -52,6 +54,7 @@ pub enum Call {
 pub fn case_of(call: Call, random: &mut Random, size: Size) -> Case {
     match call {
         Call::MapAdd => maps::additions(random),
+        Call::MapSound => maps::soundness(random, size),
         Call::SromLoad => roms::load(random, size),
         Call::AplxLoad => images::load(random, size),
         Call::ScpAnswer => packets::answer(random, size),
@@ -65,8 +68,9 @@ pub fn case_of(call: Call, random: &mut Random, size: Size) -> Case {
 /// An input of any call.
 pub fn case(random: &mut Random) -> Case {
     let call = match random.below(100) {
-        0..=9 => Call::MapAdd,
-        10..=27 => Call::SromLoad,
+        0..=8 => Call::MapAdd,
+        9..=12 => Call::MapSound,
+        13..=27 => Call::SromLoad,
         28..=47 => Call::AplxLoad,
         48..=67 => Call::ScpAnswer,
         68..=75 => Call::PlanRead,

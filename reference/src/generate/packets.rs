@@ -5,7 +5,7 @@ use super::maps::{scene, Scene};
 use super::{damage, Case, Size};
 use crate::map::Right;
 use crate::random::Random;
-use crate::scp::{Identity, APLX, LARGEST, READ, RUN, VER, WRITE};
+use crate::scp::{APLX, LARGEST, READ, RUN, VER, WRITE};
 
 pub fn answer(random: &mut Random, size: Size) -> Case {
     let command = match random.below(20) {
@@ -48,13 +48,9 @@ pub fn answer(random: &mut Random, size: Size) -> Case {
         _ => LARGEST,
     };
     let output = random.bytes(length);
-    let identity = Identity {
-        point_to_point: random.word() as u16,
-        physical: random.byte(),
-        virtual_cpu: random.byte(),
-        version: random.word() as u16,
-        date: random.word(),
-    };
+    // Mostly numbers that their fields hold; else with bits that do not count.
+    let fields = if random.once_in(3) { [u32::MAX; 5] } else { [0xffff, 0xff, 0xff, 0xffff, u32::MAX] };
+    let identity = fields.map(|field| random.word() & field);
     Case::ScpAnswer { table: scene.table, memory: scene.memory, identity, packet, output }
 }
 

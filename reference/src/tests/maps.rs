@@ -92,17 +92,29 @@ fn run_addresses() {
 fn the_table() {
     let mut table = vec![0; 132];
     assert_eq!(map_of(&table), Some(Map::empty()));
+    assert_eq!(Reference.map_sound(&table, 0), 0);
     table[116..].fill(0xee);
-    assert_eq!(Reference.map_add(&mut table, 0x100, 8, 5, 0xffff_fffb), 0);
+    let before = table.clone();
+    for rights in [8, 11, 0xffff_fffb] {
+        assert_eq!(Reference.map_add(&mut table, 0x100, 8, 5, rights), 1);
+    }
+    assert_eq!(table, before, "a bit without a meaning");
+    assert_eq!(Reference.map_add(&mut table, 0x100, 8, 5, 3), 0);
     assert_eq!(table[..20], [1, 0, 0, 0, 0, 1, 0, 0, 8, 0, 0, 0, 5, 0, 0, 0, 3, 0, 0, 0]);
     assert_eq!(table[116..128], [0xee; 12]);
-    assert_eq!(table[128..], [6, 0, 0, 0], "higher bits of the rights are cleared past the count too");
-    table[16] = 0xf3;
+    assert_eq!(table[128..], [6, 0, 0, 0], "past the count the three low bits of the rights are left");
+    assert_eq!((Reference.map_sound(&table, 13), Reference.map_sound(&table, 12)), (0, 1));
     let before = table.clone();
     assert_eq!(Reference.map_add(&mut table, 0x104, 8, 50, 7), 1);
     assert_eq!(table, before);
+    table[17] = 1;
+    assert_eq!(map_of(&table), None, "a region in use with rights over 7");
+    assert_eq!(Reference.map_sound(&table, 13), 1);
+    assert_eq!(Reference.map_add(&mut table, 0x200, 8, 50, 7), 1);
+    table[17] = 0;
+    table[33] = 1;
+    assert_eq!(Reference.map_sound(&table, 13), 0, "past the count they say nothing");
     assert_eq!(Reference.map_add(&mut table, 0x200, 8, 50, 7), 0);
-    assert_eq!(table[16], 3, "and in an earlier region");
     table[0] = 9;
     assert_eq!(map_of(&table), None);
     assert_eq!(Reference.map_add(&mut table, 0x300, 8, 100, 7), 1);

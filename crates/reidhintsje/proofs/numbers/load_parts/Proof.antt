@@ -1,0 +1,33 @@
+-- `reidhintsje::numbers::load_parts` meets its contract: a refusal, or the stop.
+use borrow.Author.Needs.{needs}
+use Rattle.reidhintsje.proofs.numbers.load_parts.Statement.{statement}
+use Rattle.reidhintsje.proofs.numbers.load_parts.Tie as tie
+
+enum-known-answer : tie.Need-enum-known-answer
+enum-known-answer c = search needs
+
+refused-requires : tie.Need-refused-requires
+refused-requires c κs = search needs
+
+enum-known-answer-2 : tie.Need-enum-known-answer-2
+enum-known-answer-2 c = search needs
+
+stop-parts-requires : tie.Need-stop-parts-requires
+stop-parts-requires c κs = search needs
+
+returns : tie.Need-returns
+returns c = simp (c .before .before .answer .given .1) (c .refused .ensures)
+
+returns-2 : tie.Need-returns-2
+returns-2 c = simp (c .before .before .answer2 .given .1) (c .stop-parts .ensures)
+
+pub load-parts-spec : {M : Type 1} → statement M
+load-parts-spec =
+    tie.close
+    (tie.spec
+    enum-known-answer
+    refused-requires
+    enum-known-answer-2
+    stop-parts-requires
+    returns
+    returns-2)

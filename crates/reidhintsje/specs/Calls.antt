@@ -1,0 +1,97 @@
+-- What each call of the library gives: the definitions of the loaders, the answerer, the reader and the packers, with the map of a table
+-- and with numbers for what is no number.
+pub mod Laws
+use mathlib.Core.Bool.{Bool, true, false}
+use mathlib.Core.List.{List}
+use Prim.Native.Nat.{ℕ, _%_}
+use lib.Dec.{eqb}
+use lib.ListN.{length, getD}
+use Rattle.words.specs.Choice.{if_then_else_}
+use Rattle.outcome.specs.Outcome.{Loaded}
+use Rattle.memory_map.specs.Map.{sound}
+use Rattle.srom.specs.Load.{sromLoad}
+use Rattle.aplx.specs.Load.{aplxLoad}
+use Rattle.scp.specs.declared.answer.Identity.{Identity}
+use Rattle.scp.specs.Answer.{Answered, scpAnswer}
+use Rattle.plan.specs.Plan.{Piece, Read, refused, pieces, readPlan}
+use Rattle.plan.specs.Code as read
+use Rattle.plan.specs.Packed as packed
+use Rattle.plan.specs.Packed.{Packed, outputAfter}
+use Rattle.srom_pack.specs.Image.{sromImage, packSrom}
+use Rattle.aplx_pack.specs.Image.{aplxImage, packAplx}
+use Rattle.reidhintsje.specs.Table.{mapOf}
+use Rattle.reidhintsje.specs.Numbers.{loadNumbers, replyNumbers, readNumbers, packNumbers}
+
+-- ---- the map: 0 where it is sound for a memory of n bytes, else the refusal's number
+abbrev pub soundNumber : Bool → ℕ
+soundNumber true = 0
+soundNumber false = 1
+
+abbrev pub soundCall : List ℕ → ℕ → ℕ
+soundCall map n = soundNumber (sound (mapOf map) n)
+
+-- ---- the loaders: the numbers of the outcome, and the memory afterwards
+pub record Loading : Type 0 where
+  pub numbers : List ℕ
+  pub memory : List ℕ
+
+abbrev pub loading : Loaded → Loading
+loading l = record { numbers = loadNumbers (l .outcome); memory = l .memory }
+
+abbrev pub sromCall : List ℕ → List ℕ → ℕ → List ℕ → Loading
+sromCall map rom offset memory = loading (sromLoad (mapOf map) rom offset memory)
+
+abbrev pub aplxCall : List ℕ → List ℕ → ℕ → Loading
+aplxCall map memory header = loading (aplxLoad (mapOf map) memory header)
+
+-- ---- the answerer
+-- five numbers; of each as many bits count as its field has
+abbrev pub identityOf : List ℕ → Identity
+identityOf l =
+    record {
+      «point_to_point» = getD l 0 0 % 65536;
+      «physical_cpu» = getD l 1 0 % 256;
+      «virtual_cpu» = getD l 2 0 % 256;
+      version = getD l 3 0 % 65536;
+      date = getD l 4 0;
+    }
+
+-- the numbers of the outcome, and the memory and the output afterwards
+pub record Answering : Type 0 where
+  pub numbers : List ℕ
+  pub memory : List ℕ
+  pub output : List ℕ
+
+abbrev pub answering : Answered → Answering
+answering a = record { numbers = replyNumbers (a .reply); memory = a .memory; output = a .output }
+
+abbrev pub scpCall : List ℕ → List ℕ → List ℕ → List ℕ → List ℕ → Answering
+scpCall map identity packet memory output = answering (scpAnswer (mapOf map) (identityOf identity) packet memory output)
+
+-- ---- plans
+-- the unit of a target: 0 APLX, 1 SROM, any other number tests no length
+unfoldable pub unitAt : ℕ → ℕ
+unitAt t = if eqb t 0 then 32 else if eqb t 1 then 4 else 1
+
+abbrev pub readCall : List ℕ → ℕ → List ℕ
+readCall plan target = readNumbers (read.outcomeOf (readPlan (unitAt target) plan))
+
+-- the length that the image of a plan has; a plan that is refused has none
+abbrev pub imageLength : (List Piece → List ℕ) → Read → ℕ
+imageLength image (refused n i) = 0
+imageLength image (pieces ps) = length (image ps)
+
+-- the numbers of the outcome, and the output afterwards
+pub record Packing : Type 0 where
+  pub numbers : List ℕ
+  pub output : List ℕ
+
+-- the plan as it was read, packed as this image into this output
+abbrev pub packing : (List Piece → List ℕ) → Read → Packed → List ℕ → Packing
+packing image r p output = record { numbers = packNumbers (imageLength image r) (packed.outcomeOf p); output = outputAfter p output }
+
+abbrev pub sromPackCall : List ℕ → List ℕ → Packing
+sromPackCall plan output = packing sromImage (readPlan 4 plan) (packSrom plan (length output)) output
+
+abbrev pub aplxPackCall : List ℕ → List ℕ → Packing
+aplxPackCall plan output = packing aplxImage (readPlan 32 plan) (packAplx plan (length output)) output

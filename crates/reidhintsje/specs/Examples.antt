@@ -1,0 +1,145 @@
+-- Computed examples of tables and of outcomes as numbers.
+use mathlib.Core.Path.{_≡_, refl}
+use mathlib.Core.Bool.{true, false}
+use mathlib.Core.List.{List, [], _∷_}
+use Prim.Native.Nat.{ℕ}
+use lib.ListN.{length, take, drop, replicate}
+use Rattle.words.specs.Choice.{every}
+use Rattle.words.specs.Range.{meets}
+use Rattle.words.specs.Bytes.{littleEndian, fromLittleEndian, firstBytes, littleEndianAt}
+use Rattle.words.specs.Four.{fourBytes}
+use Rattle.words.specs.Store.{store}
+use Rattle.outcome.specs.Outcome as load
+use Rattle.outcome.specs.Outcome.{arm, thumb, end, unknown, run}
+use Rattle.memory_region.specs.Region.{keepsRules, clear, endsInside}
+use Rattle.memory_map.specs.Map.{emptyMap, regionsOf, allKeepRules, wellFormed, sound, extended, add, taken, refused}
+use Rattle.plan.specs.Code as read
+use Rattle.plan.specs.Packed as packed
+use Rattle.scp.specs.Answer as scp
+use Rattle.reidhintsje.specs.Table.{rightsOf, regionOf, regionIn, regionsIn, rightsKnown, regular, mapOf, rightsNumber, regionBytes, regionsBytes, tableOf, addition, tableAfter}
+use Rattle.reidhintsje.specs.Numbers.{loadNumbers, readNumbers, packNumbers, replyNumbers}
+use Rattle.reidhintsje.specs.Calls.{soundCall, identityOf, unitAt}
+
+-- the table after an addition
+abbrev after : List ℕ → ℕ → ℕ → ℕ → ℕ → List ℕ
+after t b n p w = tableAfter t (addition t b n p w)
+
+-- the empty map, and the tables after one and after two additions
+zeros : List ℕ
+zeros = replicate 132 0
+
+one : List ℕ
+one = after zeros 4096 256 0 7
+
+two : List ℕ
+two = after one 8192 64 256 1
+
+-- the table of one region, with rights of 8 in that region, and with rights of 254 past the count
+higher : List ℕ
+higher = store one 16 (8 ∷ [])
+
+past : List ℕ
+past = store one 128 (254 ∷ [])
+
+record Tables : Type 0 where
+  pub empty : mapOf zeros ≡ emptyMap
+  pub short : soundCall (replicate 131 0) 0 ≡ 1
+  pub long : soundCall (replicate 133 0) 0 ≡ 1
+  pub whole : soundCall zeros 0 ≡ 0
+  pub held : soundCall one 256 ≡ 0
+  pub not-held : soundCall one 255 ≡ 1
+  pub first : addition zeros 4096 256 0 7 .verdict ≡ taken
+  pub first-bytes : take 24 one ≡ 1 ∷ 0 ∷ 0 ∷ 0 ∷ 0 ∷ 16 ∷ 0 ∷ 0 ∷ 0 ∷ 1 ∷ 0 ∷ 0 ∷ 0 ∷ 0 ∷ 0 ∷ 0 ∷ 7 ∷ 0 ∷ 0 ∷ 0 ∷ 0 ∷ 0 ∷ 0 ∷ 0 ∷ []
+  pub second-bytes : take 16 (drop 20 two) ≡ 0 ∷ 32 ∷ 0 ∷ 0 ∷ 64 ∷ 0 ∷ 0 ∷ 0 ∷ 0 ∷ 1 ∷ 0 ∷ 0 ∷ 1 ∷ 0 ∷ 0 ∷ 0 ∷ []
+  pub second-map : regionsOf (mapOf two)
+      ≡ record { base = 4096; length = 256; place = 0; rights = record { read = true; write = true; run = true } }
+      ∷ record { base = 8192; length = 64; place = 256; rights = record { read = true; write = false; run = false } }
+      ∷ []
+  pub writing : rightsOf 2 ≡ record { read = false; write = true; run = false }
+  pub running : rightsOf 4 ≡ record { read = false; write = false; run = true }
+  -- a base that is no multiple of 4, and a region that shares an address
+  pub unaligned : addition zeros 2 256 0 7 .verdict ≡ refused 1 0
+  pub shared : addition one 4348 64 256 7 .verdict ≡ refused 1 0
+  -- rights over 7: a new region is refused, and a region in use makes the map unsound
+  pub over : addition zeros 4096 256 0 8 .verdict ≡ refused 1 0
+  pub over-bytes : after one 8192 64 256 8 ≡ one
+  pub in-use : soundCall higher 256 ≡ 1
+  -- past the count they say nothing, stay where an addition is refused, and are 0 to 7 where it is taken
+  pub unused : soundCall past 256 ≡ 0
+  pub shared-bytes : after past 4348 64 256 7 ≡ past
+  pub cleared-bytes : after past 8192 64 256 1 ≡ store two 128 (6 ∷ [])
+
+tables : Tables
+unfolding mapOf regionsIn regionIn regionOf rightsOf rightsKnown regular fourBytes rightsNumber regionBytes regionsBytes tableOf addition tableAfter zeros one two higher past add extended wellFormed allKeepRules sound regionsOf every keepsRules clear endsInside meets store littleEndian fromLittleEndian firstBytes littleEndianAt
+tables =
+    record {
+      empty = refl;
+      short = refl;
+      long = refl;
+      whole = refl;
+      held = refl;
+      not-held = refl;
+      first = refl;
+      first-bytes = refl;
+      second-bytes = refl;
+      second-map = refl;
+      writing = refl;
+      running = refl;
+      unaligned = refl;
+      shared = refl;
+      over = refl;
+      over-bytes = refl;
+      in-use = refl;
+      unused = refl;
+      shared-bytes = refl;
+      cleared-bytes = refl;
+    }
+
+-- ---- outcomes: refusal, place, event, kind, address, resume, items, bytes
+record Loads : Type 0 where
+  pub refusal : loadNumbers (load.refused 4 7) ≡ 4 ∷ 7 ∷ 0 ∷ 0 ∷ 0 ∷ 0 ∷ 0 ∷ 0 ∷ []
+  pub at-end : loadNumbers (load.accepted (end 3) 2 64) ≡ 0 ∷ 3 ∷ 1 ∷ 0 ∷ 0 ∷ 0 ∷ 2 ∷ 64 ∷ []
+  pub at-unknown : loadNumbers (load.accepted (unknown 9 3) 2 64) ≡ 0 ∷ 3 ∷ 2 ∷ 0 ∷ 9 ∷ 0 ∷ 2 ∷ 64 ∷ []
+  pub at-arm : loadNumbers (load.accepted (run arm 4096 16) 2 64) ≡ 0 ∷ 0 ∷ 3 ∷ 1 ∷ 4096 ∷ 16 ∷ 2 ∷ 64 ∷ []
+  pub at-thumb : loadNumbers (load.accepted (run thumb 4097 16) 2 64) ≡ 0 ∷ 0 ∷ 3 ∷ 2 ∷ 4097 ∷ 16 ∷ 2 ∷ 64 ∷ []
+
+loads : Loads
+loads = record { refusal = refl; at-end = refl; at-unknown = refl; at-arm = refl; at-thumb = refl }
+
+record Replies : Type 0 where
+  pub no-map : replyNumbers (scp.refused 1 0) ≡ 1 ∷ 0 ∷ 0 ∷ 0 ∷ 0 ∷ 0 ∷ 0 ∷ 0 ∷ []
+  pub no-room : replyNumbers (scp.refused 10 0) ≡ 10 ∷ 0 ∷ 0 ∷ 0 ∷ 0 ∷ 0 ∷ 0 ∷ 272 ∷ []
+  pub none : replyNumbers scp.silent ≡ 0 ∷ 0 ∷ 6 ∷ 0 ∷ 0 ∷ 0 ∷ 0 ∷ 0 ∷ []
+  pub response : replyNumbers (scp.responds 31) ≡ 0 ∷ 0 ∷ 5 ∷ 0 ∷ 0 ∷ 0 ∷ 0 ∷ 31 ∷ []
+  pub run-arm : replyNumbers (scp.runs arm 4096) ≡ 0 ∷ 0 ∷ 4 ∷ 1 ∷ 4096 ∷ 0 ∷ 0 ∷ 0 ∷ []
+  pub load-thumb : replyNumbers (scp.loads thumb 4097 16) ≡ 0 ∷ 0 ∷ 3 ∷ 2 ∷ 4097 ∷ 16 ∷ 0 ∷ 0 ∷ []
+  pub identity : identityOf (0x10203 ∷ 0x104 ∷ 0x205 ∷ 0x30607 ∷ 0xf0000008 ∷ [])
+      ≡ record { «point_to_point» = 0x203; «physical_cpu» = 4; «virtual_cpu» = 5; version = 0x607; date = 0xf0000008 }
+
+replies : Replies
+replies =
+    record { no-map = refl; no-room = refl; none = refl; response = refl; run-arm = refl; load-thumb = refl; identity = refl }
+
+record Plans : Type 0 where
+  pub not-read : readNumbers (read.refuses 11 2) ≡ 11 ∷ 2 ∷ 0 ∷ 0 ∷ 0 ∷ 0 ∷ 0 ∷ 0 ∷ []
+  pub read-whole : readNumbers (read.reads 5 64 32) ≡ 0 ∷ 0 ∷ 7 ∷ 0 ∷ 0 ∷ 0 ∷ 5 ∷ 0 ∷ []
+  pub not-packed : packNumbers 0 (packed.refusal 11 2) ≡ 11 ∷ 2 ∷ 0 ∷ 0 ∷ 0 ∷ 0 ∷ 0 ∷ 0 ∷ []
+  pub no-room : packNumbers 80 (packed.refusal 10 2) ≡ 10 ∷ 2 ∷ 0 ∷ 0 ∷ 0 ∷ 0 ∷ 0 ∷ 80 ∷ []
+  pub packed-whole : packNumbers 48 (packed.sized 48) ≡ 0 ∷ 0 ∷ 8 ∷ 0 ∷ 0 ∷ 0 ∷ 0 ∷ 48 ∷ []
+  pub aplx : unitAt 0 ≡ 32
+  pub srom : unitAt 1 ≡ 4
+  pub any : unitAt 2 ≡ 1
+
+plans : Plans
+unfolding unitAt
+plans =
+    record {
+      not-read = refl;
+      read-whole = refl;
+      not-packed = refl;
+      no-room = refl;
+      packed-whole = refl;
+      aplx = refl;
+      srom = refl;
+      any = refl;
+    }

@@ -1,0 +1,194 @@
+//! The library over slices. A slice has its length, and what a call may write is lent to it alone, so that a caller of this module needs no
+//! `unsafe`. include/reidhintsje.h says what each call takes and answers.
+#![allow(dead_code)]
+
+mod linked {
+    extern "C" {
+        pub fn reidhintsje_map_add(
+            map: *mut u8, map_length: usize, base: u32, length: u32, place: u32, rights: u32,
+        ) -> u32;
+        pub fn reidhintsje_map_sound(map: *const u8, map_length: usize, memory_length: usize) -> u32;
+        pub fn reidhintsje_srom_load(
+            map: *const u8, map_length: usize, memory: *mut u8, memory_length: usize,
+            rom: *const u8, rom_length: usize, offset: usize, outcome: *mut u64,
+        ) -> u32;
+        pub fn reidhintsje_aplx_load(
+            map: *const u8, map_length: usize, memory: *mut u8, memory_length: usize,
+            header: u32, outcome: *mut u64,
+        ) -> u32;
+        pub fn reidhintsje_scp_answer(
+            map: *const u8, map_length: usize, memory: *mut u8, memory_length: usize, identity: *const u32,
+            packet: *const u8, packet_length: usize, output: *mut u8, output_length: usize, outcome: *mut u64,
+        ) -> u32;
+        pub fn reidhintsje_plan_read(plan: *const u8, plan_length: usize, target: u32, outcome: *mut u64) -> u32;
+        pub fn reidhintsje_pack_srom(
+            plan: *const u8, plan_length: usize, output: *mut u8, output_length: usize, outcome: *mut u64,
+        ) -> u32;
+        pub fn reidhintsje_pack_aplx(
+            plan: *const u8, plan_length: usize, output: *mut u8, output_length: usize, outcome: *mut u64,
+        ) -> u32;
+    }
+}
+
+pub const MAP_BYTES: usize = 132;
+pub const SCP_OUTPUT_BYTES: usize = 272;
+
+/// Rights of a region; add up those that are given.
+pub const MAY_READ: u32 = 1;
+pub const MAY_WRITE: u32 = 2;
+pub const MAY_RUN: u32 = 4;
+
+/// What happened in a call.
+#[derive(Clone, Copy, Debug, PartialEq, Eq)]
+pub enum Event {
+    Refused,
+    End,
+    Unknown,
+    Run,
+    Start,
+    Response,
+    Silent,
+    Read,
+    Packed,
+}
+
+/// What code a run enters.
+#[derive(Clone, Copy, Debug, PartialEq, Eq)]
+pub enum Kind {
+    Arm,
+    Thumb,
+}
+
+/// What plans are read for.
+#[derive(Clone, Copy, Debug, PartialEq, Eq)]
+pub enum Target {
+    Aplx = 0,
+    Srom = 1,
+    Any = 2,
+}
+
+/// What a VER packet is told.
+#[derive(Clone, Copy, Debug, PartialEq, Eq)]
+pub struct Identity {
+    pub point_to_point: u16,
+    pub physical_cpu: u8,
+    pub virtual_cpu: u8,
+    pub version: u16,
+    pub date: u32,
+}
+
+/// The eight numbers of a call.
+#[derive(Clone, Copy, Debug, PartialEq, Eq)]
+pub struct Outcome {
+    pub numbers: [u64; 8],
+}
+
+impl Outcome {
+    /// The refusal's number, or 0.
+    pub fn refusal(&self) -> u32 {
+        self.numbers[0] as u32
+    }
+
+    pub fn place(&self) -> u64 {
+        self.numbers[1]
+    }
+
+    pub fn event(&self) -> Event {
+        match self.numbers[2] {
+            0 => Event::Refused,
+            1 => Event::End,
+            2 => Event::Unknown,
+            3 => Event::Run,
+            4 => Event::Start,
+            5 => Event::Response,
+            6 => Event::Silent,
+            7 => Event::Read,
+            8 => Event::Packed,
+            other => unreachable!("event {other}"),
+        }
+    }
+
+    /// The kind of a run; None where there was none.
+    pub fn kind(&self) -> Option<Kind> {
+        match self.numbers[3] {
+            1 => Some(Kind::Arm),
+            2 => Some(Kind::Thumb),
+            _ => None,
+        }
+    }
+
+    pub fn address(&self) -> u32 {
+        self.numbers[4] as u32
+    }
+
+    /// Where the next load goes on: an offset, or a header address.
+    pub fn resume(&self) -> u32 {
+        self.numbers[5] as u32
+    }
+
+    pub fn items(&self) -> u64 {
+        self.numbers[6]
+    }
+
+    pub fn bytes(&self) -> usize {
+        self.numbers[7] as usize
+    }
+}
+
+/// Calls with a lent array for the numbers.
+fn call(library: impl FnOnce(*mut u64) -> u32) -> Outcome {
+    let mut numbers = [0; 8];
+    let returned = library(numbers.as_mut_ptr());
+    debug_assert_eq!(u64::from(returned), numbers[0]);
+    Outcome { numbers }
+}
+
+/// Whether the region was added; else the table is as it was.
+pub fn map_add(map: &mut [u8], base: u32, length: u32, place: u32, rights: u32) -> bool {
+    unsafe { linked::reidhintsje_map_add(map.as_mut_ptr(), map.len(), base, length, place, rights) == 0 }
+}
+
+/// Whether the map is sound for a memory of so many bytes.
+pub fn map_sound(map: &[u8], memory_length: usize) -> bool {
+    unsafe { linked::reidhintsje_map_sound(map.as_ptr(), map.len(), memory_length) == 0 }
+}
+
+pub fn srom_load(map: &[u8], memory: &mut [u8], rom: &[u8], offset: usize) -> Outcome {
+    let (at, length) = (memory.as_mut_ptr(), memory.len());
+    call(|outcome| unsafe {
+        linked::reidhintsje_srom_load(map.as_ptr(), map.len(), at, length, rom.as_ptr(), rom.len(), offset, outcome)
+    })
+}
+
+pub fn aplx_load(map: &[u8], memory: &mut [u8], header: u32) -> Outcome {
+    let (at, length) = (memory.as_mut_ptr(), memory.len());
+    call(|outcome| unsafe { linked::reidhintsje_aplx_load(map.as_ptr(), map.len(), at, length, header, outcome) })
+}
+
+pub fn scp_answer(map: &[u8], memory: &mut [u8], identity: Identity, packet: &[u8], output: &mut [u8]) -> Outcome {
+    let Identity { point_to_point, physical_cpu, virtual_cpu, version, date } = identity;
+    let numbers: [u32; 5] =
+        [point_to_point.into(), physical_cpu.into(), virtual_cpu.into(), version.into(), date];
+    call(|outcome| unsafe {
+        linked::reidhintsje_scp_answer(
+            map.as_ptr(), map.len(), memory.as_mut_ptr(), memory.len(), numbers.as_ptr(),
+            packet.as_ptr(), packet.len(), output.as_mut_ptr(), output.len(), outcome,
+        )
+    })
+}
+
+pub fn plan_read(plan: &[u8], target: Target) -> Outcome {
+    call(|outcome| unsafe { linked::reidhintsje_plan_read(plan.as_ptr(), plan.len(), target as u32, outcome) })
+}
+
+pub fn pack_srom(plan: &[u8], output: &mut [u8]) -> Outcome {
+    call(|outcome| unsafe {
+        linked::reidhintsje_pack_srom(plan.as_ptr(), plan.len(), output.as_mut_ptr(), output.len(), outcome)
+    })
+}
+
+pub fn pack_aplx(plan: &[u8], output: &mut [u8]) -> Outcome {
+    call(|outcome| unsafe {
+        linked::reidhintsje_pack_aplx(plan.as_ptr(), plan.len(), output.as_mut_ptr(), output.len(), outcome)
+    })
+}
