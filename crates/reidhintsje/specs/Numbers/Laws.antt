@@ -1,6 +1,6 @@
 -- Laws of the numbers of a packed plan: the image's length counts only where the output was too small.
 use mathlib.Core.Path.{_≡_, refl}
-use mathlib.Core.Bool.{Bool, true, false}
+use mathlib.Core.Bool.{Bool, false}
 use Prim.Native.Nat.{ℕ}
 use lib.Dec.{eqb}
 use Rattle.plan.specs.Packed.{Outcome, refusal, sized}

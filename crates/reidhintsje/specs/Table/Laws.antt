@@ -1,13 +1,12 @@
 -- Laws of tables: which map a table is, which table takes a region, and what is left of it.
 use mathlib.Core.Path.{_≡_, refl, sym, _∙_}
-use mathlib.Core.Bool.{Bool, true, false, not}
+use mathlib.Core.Bool.{Bool, true, false}
 use mathlib.Core.List.{List}
 use Prim.Native.Nat.{ℕ, zero, suc, _+_, _-_, _*_, _≤_, _<_}
 use native.Mathlib.Omega.{arith}
 use lib.Dec.{ltb, eqb}
 use lib.ListN.{length}
 use borrow.Author.Tests.{lt-ltb, le-ltb, eq-eqb, ne-eqb, eqb-true, eqb-false, ltb-true, ltb-false}
-use Rattle.words.specs.Choice.{if_then_else_}
 use Rattle.words.specs.Choice.Laws.{true-is-false, to-both}
 use Rattle.words.specs.Bytes.{littleEndianAt}
 use Rattle.memory_map.specs.declared.region.Region.{Region}

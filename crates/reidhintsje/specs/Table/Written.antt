@@ -18,7 +18,7 @@ use Rattle.memory_map.specs.declared.region.Region.{Region}
 use Rattle.memory_map.specs.declared.map.Map.{Map}
 use Rattle.memory_map.specs.Map.{Verdict, taken, refused, add}
 use Rattle.memory_map.specs.Map.Added.{taken-few, refused-same, added-length, added-all}
-use Rattle.reidhintsje.specs.Table.{bitOf, rightsOf, regionOf, regionIn, regionsIn, countIn, mapOf, rightsNumber, regionBytes, regionsBytes, tableOf, rightsKnown, regular, addition, tableAfter}
+use Rattle.reidhintsje.specs.Table.{bitOf, rightsOf, regionOf, regionIn, regionsIn, countIn, mapOf, rightsNumber, regionBytes, regionsBytes, tableOf, rightsKnown, addition, tableAfter}
 use Rattle.reidhintsje.specs.Table.Laws.{map-of-table, by-rights, taken-regular, after-taken, after-refused}
 
 -- ---- lengths

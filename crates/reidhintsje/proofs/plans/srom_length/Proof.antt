@@ -1,6 +1,6 @@
 -- `reidhintsje::plans::srom_length` meets its contract: the length of the image by its count of pieces and its sums.
 use borrow.Author.Needs.{needs}
-use mathlib.Core.Path.{_≡_, ap, sym, _∙_}
+use mathlib.Core.Path.{ap, sym, _∙_}
 use mathlib.Core.List.{List}
 use Prim.Native.Nat.{ℕ}
 use native.Mathlib.Omega.{arith}
