@@ -56,7 +56,7 @@ extern "C" {
 #define REIDHINTSJE_REFUSED 0  /* nothing was changed */
 #define REIDHINTSJE_END 1      /* a load came to its end */
 #define REIDHINTSJE_UNKNOWN 2  /* a load stopped at an unknown command word */
-#define REIDHINTSJE_RUN 3      /* a load stopped at a run; RESUME says where the next load goes on. Also of a packet that asked for the load */
+#define REIDHINTSJE_RUN 3      /* a load, also one that a packet asked for, stopped at a run; RESUME says where the next load goes on */
 #define REIDHINTSJE_START 4    /* a packet asks for a run; there is no resume */
 #define REIDHINTSJE_RESPONSE 5 /* a packet was answered; the response stands at the output's front */
 #define REIDHINTSJE_SILENT 6   /* a packet gets no response, and nothing was done */
@@ -99,9 +99,9 @@ uint32_t reidhintsje_srom_load(const uint8_t *map, size_t map_length, uint8_t *m
 uint32_t reidhintsje_aplx_load(const uint8_t *map, size_t map_length, uint8_t *memory, size_t memory_length, uint32_t header,
                                uint64_t *outcome);
 
-/* ---- SCP: RESPONSE with BYTES, SILENT, START or RUN
+/* ---- SCP: RESPONSE with BYTES, SILENT, START or RUN (here without ITEMS and BYTES)
  * Answers one packet. The output must have 272 bytes or more, else 10. `identity` is what a VER packet is told, five numbers; of each only
- * as many bits count as its field has. */
+ * as many bits count as its field has. Refusals: 10, 1. A load that a packet asks for and that is refused is a RESPONSE. */
 #define REIDHINTSJE_SCP_OUTPUT_BYTES 272
 
 #define REIDHINTSJE_IDENTITY_NUMBERS 5

@@ -1,24 +1,24 @@
 -- Computed examples of tables and of outcomes as numbers.
 use mathlib.Core.Path.{_≡_, refl}
 use mathlib.Core.Bool.{true, false}
-use mathlib.Core.List.{List, [], _∷_}
+use mathlib.Core.List.{List, [], _∷_, _++_}
 use Prim.Native.Nat.{ℕ}
 use lib.ListN.{length, take, drop, replicate}
-use Rattle.words.specs.Choice.{every}
-use Rattle.words.specs.Range.{meets}
-use Rattle.words.specs.Bytes.{littleEndian, fromLittleEndian, firstBytes, littleEndianAt}
 use Rattle.words.specs.Four.{fourBytes}
 use Rattle.words.specs.Store.{store}
+use Rattle.words.specs.Open as words-group
 use Rattle.outcome.specs.Outcome as load
 use Rattle.outcome.specs.Outcome.{arm, thumb, end, unknown, run}
-use Rattle.memory_region.specs.Region.{keepsRules, clear, endsInside}
-use Rattle.memory_map.specs.Map.{emptyMap, regionsOf, allKeepRules, wellFormed, sound, extended, add, taken, refused}
+use Rattle.memory_map.specs.Map.{emptyMap, regionsOf, taken, refused}
+use Rattle.memory_map.specs.Open as map-group
 use Rattle.plan.specs.Code as read
 use Rattle.plan.specs.Packed as packed
+use Rattle.srom_pack.specs.Open as srom-group
+use Rattle.aplx_pack.specs.Open as aplx-group
 use Rattle.scp.specs.Answer as scp
 use Rattle.reidhintsje.specs.Table.{rightsOf, regionOf, regionIn, regionsIn, rightsKnown, regular, mapOf, rightsNumber, regionBytes, regionsBytes, tableOf, addition, tableAfter}
 use Rattle.reidhintsje.specs.Numbers.{loadNumbers, readNumbers, packNumbers, replyNumbers}
-use Rattle.reidhintsje.specs.Calls.{soundCall, identityOf, unitAt}
+use Rattle.reidhintsje.specs.Calls.{soundCall, identityOf, unitAt, sromPackCall, aplxPackCall}
 
 -- the table after an addition
 abbrev after : List ℕ → ℕ → ℕ → ℕ → ℕ → List ℕ
@@ -70,7 +70,7 @@ record Tables : Type 0 where
   pub cleared-bytes : after past 8192 64 256 1 ≡ store two 128 (6 ∷ [])
 
 tables : Tables
-unfolding mapOf regionsIn regionIn regionOf rightsOf rightsKnown regular fourBytes rightsNumber regionBytes regionsBytes tableOf addition tableAfter zeros one two higher past add extended wellFormed allKeepRules sound regionsOf every keepsRules clear endsInside meets store littleEndian fromLittleEndian firstBytes littleEndianAt
+unfolding words-group.stores map-group.maps mapOf regionsIn regionIn regionOf rightsOf rightsKnown regular rightsNumber regionBytes regionsBytes tableOf addition tableAfter zeros one two higher past
 tables =
     record {
       empty = refl;
@@ -143,3 +143,20 @@ plans =
       srom = refl;
       any = refl;
     }
+
+-- a plan of one fill of 32 bytes, packed into no room, into one byte too few, and into enough; and a plan that is refused
+fill-plan : List ℕ
+fill-plan = fourBytes 1 16 32 0 ++ fourBytes 2 256 32 7
+
+record Packings : Type 0 where
+  pub aplx-none : aplxPackCall fill-plan [] .numbers ≡ 10 ∷ 1 ∷ 0 ∷ 0 ∷ 0 ∷ 0 ∷ 0 ∷ 32 ∷ []
+  pub aplx-less : aplxPackCall fill-plan (replicate 31 9) ≡ record { numbers = 10 ∷ 1 ∷ 0 ∷ 0 ∷ 0 ∷ 0 ∷ 0 ∷ 32 ∷ []; output = replicate 31 9 }
+  pub aplx-whole : aplxPackCall fill-plan (replicate 32 9) .numbers ≡ 0 ∷ 0 ∷ 8 ∷ 0 ∷ 0 ∷ 0 ∷ 0 ∷ 32 ∷ []
+  pub srom-none : sromPackCall fill-plan [] .numbers ≡ 10 ∷ 1 ∷ 0 ∷ 0 ∷ 0 ∷ 0 ∷ 0 ∷ 41 ∷ []
+  pub srom-whole : sromPackCall fill-plan (replicate 41 9) .numbers ≡ 0 ∷ 0 ∷ 8 ∷ 0 ∷ 0 ∷ 0 ∷ 0 ∷ 41 ∷ []
+  pub cut-short : sromPackCall (take 31 fill-plan) [] .numbers ≡ 2 ∷ 0 ∷ 0 ∷ 0 ∷ 0 ∷ 0 ∷ 0 ∷ 0 ∷ []
+
+packings : Packings
+unfolding fill-plan srom-group.image aplx-group.image
+packings =
+    record { aplx-none = refl; aplx-less = refl; aplx-whole = refl; srom-none = refl; srom-whole = refl; cut-short = refl }

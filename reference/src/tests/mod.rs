@@ -3,6 +3,7 @@
 
 mod loads;
 mod maps;
+mod outcomes;
 mod plans;
 mod slips;
 mod text;

@@ -2,12 +2,12 @@
 use mathlib.Core.Path.{_≡_, refl, sym, _∙_}
 use mathlib.Core.Bool.{Bool, true, false}
 use mathlib.Core.List.{List}
-use Prim.Native.Nat.{ℕ, suc, _+_, _-_, _*_, _≤_, _<_}
+use Prim.Native.Nat.{ℕ, zero, suc, _+_, _-_, _*_, _≤_, _<_}
 use native.Mathlib.Omega.{arith}
-use lib.Dec.{eqb}
+use lib.Dec.{ltb, eqb}
 use lib.ListN.{length}
-use borrow.Author.Tests.{lt-ltb, le-ltb, eq-eqb, ne-eqb, eqb-true}
-use Rattle.words.specs.Choice.Laws.{true-is-false}
+use borrow.Author.Tests.{lt-ltb, le-ltb, eq-eqb, ne-eqb, eqb-true, eqb-false, ltb-true, ltb-false}
+use Rattle.words.specs.Choice.Laws.{true-is-false, to-both}
 use Rattle.words.specs.Bytes.{littleEndianAt}
 use Rattle.memory_region.specs.declared.region.Region.{Region}
 use Rattle.memory_map.specs.Map.{Addition, taken, refused, add, wellFormed, sound}
@@ -57,6 +57,17 @@ module _ (t : List ℕ) where
         let b : 4 + 16 * i + 16 ≡ 4 + 16 * (i + 1) = omega arith in
         rw (z, a, b) (simp (le-ltb 7 (littleEndianAt 4 t (16 + 16 * i)) k))
 
+  -- one of k regions from offset p on has rights over 7
+  pub rights-unknown : (k p i : ℕ) → i < k → 7 < littleEndianAt 4 t (p + 12 + 16 * i) → rightsKnown k t p ≡ false
+  unfolding rightsKnown
+  rights-unknown zero p i h w = absurd (omega arith)
+  rights-unknown (suc k) p zero h w =
+      let z : p + 12 + 16 * 0 ≡ p + 12 = omega arith in
+      simp (lt-ltb 7 (littleEndianAt 4 t (p + 12)) (rw z at w))
+  rights-unknown (suc k) p (suc i) h w =
+      let z : p + 12 + 16 * suc i ≡ p + 16 + 12 + 16 * i = omega arith in
+      to-both (ltb 7 (littleEndianAt 4 t (p + 12))) refl (rights-unknown k (p + 16) i (omega arith) (rw z at w))
+
 -- ---- the map of a table
 pub map-of-table : (t : List ℕ) → regular t ≡ true → mapOf t ≡ record { regions = regionsIn 8 t 4; count = countIn t }
 unfolding mapOf
@@ -66,10 +77,22 @@ pub map-of-other : (t : List ℕ) → regular t ≡ false → mapOf t ≡ noMap
 unfolding mapOf
 map-of-other t h = simp h
 
--- "A table of any other length, or one in which a region in use has a rights word over 7, is no sound map"
 pub other-unsound : (t : List ℕ) → regular t ≡ false → (n : ℕ) → sound (mapOf t) n ≡ false
 unfolding sound wellFormed
 other-unsound t h n = rw (map-of-other t h) refl
+
+-- "A table of any other length, or one in which a region in use has a rights word over 7, is no sound map"
+module _ (t : List ℕ) (n : ℕ) where
+  pub length-unsound : (length t ≡ 132 → ⊥) → sound (mapOf t) n ≡ false
+  length-unsound h = other-unsound t (other-length t h) n
+
+  pub rights-unsound : (i : ℕ) → i < countIn t → 7 < littleEndianAt 4 t (16 + 16 * i) → sound (mapOf t) n ≡ false
+  rights-unsound i h w = other-unsound t (go (eqb (length t) 132) (ltb 8 (countIn t)) refl refl) n
+    where
+      go : (a b : Bool) → eqb (length t) 132 ≡ a → ltb 8 (countIn t) ≡ b → regular t ≡ false
+      go false b e f = other-length t (eqb-false _ _ e)
+      go true true e f = over-count t (eqb-true _ _ e) (ltb-true _ _ f)
+      go true false e f = by-rights t (eqb-true _ _ e) (ltb-false _ _ f) ∙ rights-unknown t (countIn t) 4 i h w
 
 -- a table that takes a region is regular
 pub taken-regular : (t : List ℕ) (g : Region) → add (mapOf t) g .verdict ≡ taken → regular t ≡ true

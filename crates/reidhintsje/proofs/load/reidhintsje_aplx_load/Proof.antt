@@ -20,7 +20,9 @@ same-length : tie.Need-same-length
 same-length c = search needs
 
 returns : tie.Need-returns
-returns c = load-call (c .put .ensures) (rw (c .before .before .before .before .before .before .before .map-of .ensures) at (c .before .before .before .before .before .load .ensures)) (c .before .load-parts .ensures)
+returns c =
+    let loaded = rw (c .before .before .before .before .before .before .before .map-of .ensures) at (c .before .before .before .before .before .load .ensures) in
+    load-call (c .put .ensures) loaded (c .before .load-parts .ensures)
 
 pub reidhintsje-aplx-load-spec : {M : Type 1} → statement M
 reidhintsje-aplx-load-spec =

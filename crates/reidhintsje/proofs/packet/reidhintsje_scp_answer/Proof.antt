@@ -26,7 +26,10 @@ same-length-2 : tie.Need-same-length-2
 same-length-2 c = search needs
 
 returns : tie.Need-returns
-returns c = reply-call (c .put .ensures) (rw (c .before .before .before .before .before .before .before .before .before .before .before .map-of .ensures, c .before .before .before .before .before .before .before .before .before .before .identity-of .ensures) at (c .before .before .before .before .before .before .before .answer .ensures)) (c .before .reply-parts .ensures)
+returns c =
+    let a = c .before .before .before .before .before .before .before in
+    let answered = rw (a .before .before .before .before .map-of .ensures, a .before .before .before .identity-of .ensures) at (a .answer .ensures) in
+    reply-call (c .put .ensures) answered (c .before .reply-parts .ensures)
 
 pub reidhintsje-scp-answer-spec : {M : Type 1} → statement M
 reidhintsje-scp-answer-spec =

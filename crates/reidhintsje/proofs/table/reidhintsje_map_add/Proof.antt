@@ -31,13 +31,17 @@ enum-told c = search needs
 
 -- the addition of the definitions, and its verdict by the code's
 module _ (c : tie.After-add) where
-  told : Addition
+  abbrev told : Addition
   told =
       let x = c .before .before .before .before .before .before .args in
       addition (x .map .now) (x .base) (x .length) (x .place) (x .rights)
 
-  is-add : told ≡ add (mapOf (c .before .before .before .before .before .before .args .map .now)) (regionOf (c .before .before .before .before .before .before .args .base) (c .before .before .before .before .before .before .args .length) (c .before .before .before .before .before .before .args .place) (c .before .before .before .before .before .before .args .rights))
-  unfolding told
+  abbrev added : Addition
+  added =
+      let x = c .before .before .before .before .before .before .args in
+      add (mapOf (x .map .now)) (regionOf (x .base) (x .length) (x .place) (x .rights))
+
+  is-add : told ≡ added
   is-add =
       let x = c .before .before .before .before .before .before .args in
       known-addition (x .map .now) (x .base) (x .length) (x .place) (x .rights) (omega (arith, c .before .before .before .before .if1 .left))
@@ -50,12 +54,12 @@ module _ (c : tie.After-add) where
 
 put-table-requires : tie.Need-put-table-requires
 put-table-requires c κs =
-    let added = c .before .before .before in
-    let x = added .before .before .before .before .before .before .args in
-    let v = sym (ap (λ (a : Addition). a .verdict) (is-add added)) ∙ verdict-told added (c .before .enum-told .given .1) in
+    let d = c .before .before .before in
+    let x = d .before .before .before .before .before .before .args in
     let g = regionOf (x .base) (x .length) (x .place) (x .rights) in
-    let m = is-told added ∙ is-add added in
-    (regular-whole (x .map .now) (taken-regular (x .map .now) g v), omega (arith, ap (λ (a : Addition). a .map .count) m, taken-few (mapOf (x .map .now)) g v))
+    let v = sym (ap (λ (a : Addition). a .verdict) (is-add d)) ∙ verdict-told d (c .before .enum-told .given .1) in
+    let count = ap (λ (a : Addition). a .map .count) (is-told d ∙ is-add d) in
+    (regular-whole (x .map .now) (taken-regular (x .map .now) g v), omega (arith, taken-few (mapOf (x .map .now)) g v))
 
 enum-known-verdict : tie.Need-enum-known-verdict
 enum-known-verdict c = search needs
@@ -64,23 +68,21 @@ same-length : tie.Need-same-length
 same-length c = search needs
 
 returns-2 : tie.Need-returns-2
-unfolding told
 returns-2 c =
-    let added = c .before .before .before .before .before .before in
-    let v = verdict-told added (c .before .before .before .before .enum-told .given .1) in (
+    let d = c .before .before .before .before .before .before in
+    let v = verdict-told d (c .before .before .before .before .enum-told .given .1) in (
       ap verdictNumber (sym v),
-      c .before .before .put-table .ensures ∙ ap (λ (a : Addition). tableOf (a .map)) (is-told added) ∙ sym (after-taken _ (told added) v),
+      c .before .before .put-table .ensures ∙ ap (λ (a : Addition). tableOf (a .map)) (is-told d) ∙ sym (after-taken _ (told d) v),
     )
 
 same-length-2 : tie.Need-same-length-2
 same-length-2 c = search needs
 
 returns-3 : tie.Need-returns-3
-unfolding told
 returns-3 c =
-    let added = c .before .before .before in
-    let v = verdict-told added (c .before .verdict .given .1) in
-    (ap verdictNumber (sym v), sym (after-refused _ (told added) _ _ v))
+    let d = c .before .before .before in
+    let v = verdict-told d (c .before .verdict .given .1) in
+    (ap verdictNumber (sym v), sym (after-refused _ (told d) _ _ v))
 
 pub reidhintsje-map-add-spec : {M : Type 1} → statement M
 reidhintsje-map-add-spec =
