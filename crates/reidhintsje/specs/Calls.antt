@@ -8,7 +8,7 @@ use lib.Dec.{eqb}
 use lib.ListN.{length, getD}
 use Rattle.words.specs.Choice.{if_then_else_}
 use Rattle.outcome.specs.Outcome.{Loaded}
-use Rattle.memory_map.specs.Map.{sound}
+use Rattle.memory_map.specs.Map.{Verdict, taken, refused, sound}
 use Rattle.srom.specs.Load.{sromLoad}
 use Rattle.aplx.specs.Load.{aplxLoad}
 use Rattle.scp.specs.declared.answer.Identity.{Identity}
@@ -19,10 +19,16 @@ use Rattle.plan.specs.Packed as packed
 use Rattle.plan.specs.Packed.{Packed, outputAfter}
 use Rattle.srom_pack.specs.Image.{sromImage, packSrom}
 use Rattle.aplx_pack.specs.Image.{aplxImage, packAplx}
-use Rattle.reidhintsje.specs.Table.{mapOf}
+use Rattle.map_table.specs.Table.{mapOf}
 use Rattle.reidhintsje.specs.Numbers.{loadNumbers, replyNumbers, readNumbers, packNumbers}
 
--- ---- the map: 0 where it is sound for a memory of n bytes, else the refusal's number
+-- ---- the map
+-- an addition: 0 where it is taken, else the refusal's number
+abbrev pub verdictNumber : Verdict → ℕ
+verdictNumber taken = 0
+verdictNumber (refused n p) = n
+
+-- 0 where it is sound for a memory of n bytes, else the refusal's number
 abbrev pub soundNumber : Bool → ℕ
 soundNumber true = 0
 soundNumber false = 1

@@ -1,99 +1,42 @@
--- Computed examples of tables and of outcomes as numbers.
+-- Computed examples of the calls, and of outcomes as numbers.
 use mathlib.Core.Path.{_≡_, refl}
-use mathlib.Core.Bool.{true, false}
 use mathlib.Core.List.{List, [], _∷_, _++_}
 use Prim.Native.Nat.{ℕ}
-use lib.ListN.{length, take, drop, replicate}
+use lib.ListN.{take, replicate}
 use Rattle.words.specs.Four.{fourBytes}
-use Rattle.words.specs.Store.{store}
 use Rattle.words.specs.Open as words-group
 use Rattle.outcome.specs.Outcome as load
 use Rattle.outcome.specs.Outcome.{arm, thumb, end, unknown, run}
-use Rattle.memory_map.specs.Map.{emptyMap, regionsOf, taken, refused}
+use Rattle.memory_map.specs.Map.{refused}
 use Rattle.memory_map.specs.Open as map-group
 use Rattle.plan.specs.Code as read
 use Rattle.plan.specs.Packed as packed
 use Rattle.srom_pack.specs.Open as srom-group
 use Rattle.aplx_pack.specs.Open as aplx-group
 use Rattle.scp.specs.Answer as scp
-use Rattle.reidhintsje.specs.Table.{rightsOf, regionOf, regionIn, regionsIn, rightsKnown, regular, mapOf, rightsNumber, regionBytes, regionsBytes, tableOf, addition, tableAfter}
+use Rattle.map_table.specs.Table.{addition, tableAfter}
+use Rattle.map_table.specs.Open as table-group
 use Rattle.reidhintsje.specs.Numbers.{loadNumbers, readNumbers, packNumbers, replyNumbers}
-use Rattle.reidhintsje.specs.Calls.{soundCall, identityOf, unitAt, sromPackCall, aplxPackCall}
+use Rattle.reidhintsje.specs.Calls.{verdictNumber, soundCall, identityOf, unitAt, sromPackCall, aplxPackCall}
 
--- the table after an addition
-abbrev after : List ℕ → ℕ → ℕ → ℕ → ℕ → List ℕ
-after t b n p w = tableAfter t (addition t b n p w)
-
--- the empty map, and the tables after one and after two additions
+-- ---- maps: the empty one, and one region of 256 bytes
 zeros : List ℕ
 zeros = replicate 132 0
 
 one : List ℕ
-one = after zeros 4096 256 0 7
+one = tableAfter zeros (addition zeros 4096 256 0 7)
 
-two : List ℕ
-two = after one 8192 64 256 1
-
--- the table of one region, with rights of 8 in that region, and with rights of 254 past the count
-higher : List ℕ
-higher = store one 16 (8 ∷ [])
-
-past : List ℕ
-past = store one 128 (254 ∷ [])
-
-record Tables : Type 0 where
-  pub empty : mapOf zeros ≡ emptyMap
+record Maps : Type 0 where
+  pub added : verdictNumber (addition zeros 4096 256 0 7 .verdict) ≡ 0
+  pub not-added : verdictNumber (addition zeros 4096 256 0 8 .verdict) ≡ 1
   pub short : soundCall (replicate 131 0) 0 ≡ 1
-  pub long : soundCall (replicate 133 0) 0 ≡ 1
   pub whole : soundCall zeros 0 ≡ 0
   pub held : soundCall one 256 ≡ 0
   pub not-held : soundCall one 255 ≡ 1
-  pub first : addition zeros 4096 256 0 7 .verdict ≡ taken
-  pub first-bytes : take 24 one ≡ 1 ∷ 0 ∷ 0 ∷ 0 ∷ 0 ∷ 16 ∷ 0 ∷ 0 ∷ 0 ∷ 1 ∷ 0 ∷ 0 ∷ 0 ∷ 0 ∷ 0 ∷ 0 ∷ 7 ∷ 0 ∷ 0 ∷ 0 ∷ 0 ∷ 0 ∷ 0 ∷ 0 ∷ []
-  pub second-bytes : take 16 (drop 20 two) ≡ 0 ∷ 32 ∷ 0 ∷ 0 ∷ 64 ∷ 0 ∷ 0 ∷ 0 ∷ 0 ∷ 1 ∷ 0 ∷ 0 ∷ 1 ∷ 0 ∷ 0 ∷ 0 ∷ []
-  pub second-map : regionsOf (mapOf two)
-      ≡ record { base = 4096; length = 256; place = 0; rights = record { read = true; write = true; run = true } }
-      ∷ record { base = 8192; length = 64; place = 256; rights = record { read = true; write = false; run = false } }
-      ∷ []
-  pub writing : rightsOf 2 ≡ record { read = false; write = true; run = false }
-  pub running : rightsOf 4 ≡ record { read = false; write = false; run = true }
-  -- a base that is no multiple of 4, and a region that shares an address
-  pub unaligned : addition zeros 2 256 0 7 .verdict ≡ refused 1 0
-  pub shared : addition one 4348 64 256 7 .verdict ≡ refused 1 0
-  -- rights over 7: a new region is refused, and a region in use makes the map unsound
-  pub over : addition zeros 4096 256 0 8 .verdict ≡ refused 1 0
-  pub over-bytes : after one 8192 64 256 8 ≡ one
-  pub in-use : soundCall higher 256 ≡ 1
-  -- past the count they say nothing, stay where an addition is refused, and are 0 to 7 where it is taken
-  pub unused : soundCall past 256 ≡ 0
-  pub shared-bytes : after past 4348 64 256 7 ≡ past
-  pub cleared-bytes : after past 8192 64 256 1 ≡ store two 128 (6 ∷ [])
 
-tables : Tables
-unfolding words-group.stores map-group.maps mapOf regionsIn regionIn regionOf rightsOf rightsKnown regular rightsNumber regionBytes regionsBytes tableOf addition tableAfter zeros one two higher past
-tables =
-    record {
-      empty = refl;
-      short = refl;
-      long = refl;
-      whole = refl;
-      held = refl;
-      not-held = refl;
-      first = refl;
-      first-bytes = refl;
-      second-bytes = refl;
-      second-map = refl;
-      writing = refl;
-      running = refl;
-      unaligned = refl;
-      shared = refl;
-      over = refl;
-      over-bytes = refl;
-      in-use = refl;
-      unused = refl;
-      shared-bytes = refl;
-      cleared-bytes = refl;
-    }
+maps : Maps
+unfolding table-group.tables zeros one
+maps = record { added = refl; not-added = refl; short = refl; whole = refl; held = refl; not-held = refl }
 
 -- ---- outcomes: refusal, place, event, kind, address, resume, items, bytes
 record Loads : Type 0 where

@@ -1,5 +1,4 @@
--- The library for C and Rust: a map as a table of bytes, outcomes as numbers, and what each call gives.
-pub mod Table
+-- The library for C and Rust: outcomes as numbers, and what each call gives.
 pub mod Numbers
 pub mod Calls
 pub mod Examples

@@ -1,5 +1,5 @@
 // The library for C and Rust: every call takes bytes and numbers and answers in numbers.
-pub mod table; // a map as a table of bytes
+pub mod table; // the calls of a map
 mod numbers; // outcomes as eight numbers
 pub mod load; // the two loaders
 pub mod plans; // the reader and the packers

@@ -4,7 +4,7 @@ ghost use Rattle.reidhintsje.specs.Numbers.{first};
 ghost use Rattle.reidhintsje.specs.Calls.{sromCall, aplxCall};
 use crate::numbers::load_parts;
 use crate::numbers::put;
-use crate::table::map_of;
+use map_table::table::map_of;
 
 // Loads a serial ROM from an offset on.
 #[no_mangle]

@@ -4,7 +4,7 @@ ghost use Rattle.reidhintsje.specs.Numbers.{first};
 ghost use Rattle.reidhintsje.specs.Calls.{identityOf, scpCall};
 use crate::numbers::put;
 use crate::numbers::reply_parts;
-use crate::table::map_of;
+use map_table::table::map_of;
 use scp::answer::Identity;
 
 // Five numbers; of each as many bits count as its field has.

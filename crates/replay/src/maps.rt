@@ -1,11 +1,11 @@
 // The questions that a map alone answers. The library for C has no call for them.
 use crate::library::word;
 use crate::output;
+use map_table::table::map_of;
 use memory_map::map::Found;
 use memory_map::map::RunEntry;
 use memory_region::region::Right;
 use outcome::answer::Entry;
-use reidhintsje::table::map_of;
 
 fn right_of(number: usize) -> Right {
     if number == 1 {

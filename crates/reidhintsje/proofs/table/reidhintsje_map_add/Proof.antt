@@ -1,27 +1,10 @@
--- `reidhintsje::table::reidhintsje_map_add` meets its contract: rights over 7 are refused; a table that takes a region is written from the
--- map that has it; a refused one stays.
+-- `reidhintsje::table::reidhintsje_map_add` meets its contract: the number of the verdict, and the table as the addition left it.
 use borrow.Author.Needs.{needs}
-use mathlib.Core.Path.{_≡_, ap, sym, _∙_}
-use native.Mathlib.Omega.{arith}
-use Rattle.memory_map.specs.declared.map.Verdict.{Verdict}
-use Rattle.memory_map.specs.Map.{Addition, add, verdictOf, additionOf}
-use Rattle.memory_map.specs.Map.Added.{taken-few}
-use Rattle.reidhintsje.specs.Table.{regionOf, mapOf, tableOf, addition, verdictNumber}
-use Rattle.reidhintsje.specs.Table.Laws.{regular-whole, taken-regular, over-addition, known-addition, after-taken, after-refused}
+use mathlib.Core.Path.{ap, sym, _∙_}
+use Rattle.memory_map.specs.Map.{verdictOf}
+use Rattle.reidhintsje.specs.Calls.{verdictNumber}
 use Rattle.reidhintsje.proofs.table.reidhintsje_map_add.Statement.{statement}
 use Rattle.reidhintsje.proofs.table.reidhintsje_map_add.Tie as tie
-
-returns : tie.Need-returns
-returns c =
-    let x = c .before .before .args in
-    let e = over-addition (x .map .now) (x .base) (x .length) (x .place) (x .rights) (omega (arith, c .if1 .taken)) in
-    (ap (λ (a : Addition). verdictNumber (a .verdict)) (sym e), sym (after-refused _ _ 1 0 (ap (λ (a : Addition). a .verdict) e)))
-
-map-of-requires : tie.Need-map-of-requires
-map-of-requires c κs = search needs
-
-region-of-requires : tie.Need-region-of-requires
-region-of-requires c κs = search needs
 
 add-requires : tie.Need-add-requires
 add-requires c κs = search needs
@@ -29,73 +12,33 @@ add-requires c κs = search needs
 enum-told : tie.Need-enum-told
 enum-told c = search needs
 
--- the addition of the definitions, and its verdict by the code's
-module _ (c : tie.After-add) where
-  abbrev told : Addition
-  told =
-      let x = c .before .before .before .before .before .before .args in
-      addition (x .map .now) (x .base) (x .length) (x .place) (x .rights)
-
-  abbrev added : Addition
-  added =
-      let x = c .before .before .before .before .before .before .args in
-      add (mapOf (x .map .now)) (regionOf (x .base) (x .length) (x .place) (x .rights))
-
-  is-add : told ≡ added
-  is-add =
-      let x = c .before .before .before .before .before .before .args in
-      known-addition (x .map .now) (x .base) (x .length) (x .place) (x .rights) (omega (arith, c .before .before .before .before .if1 .left))
-
-  is-told : additionOf (c .add .result) ≡ told
-  is-told = rw (c .before .before .map-of .ensures, c .before .region-of .ensures) at (c .add .ensures) ∙ sym is-add
-
-  verdict-told : {v : Verdict} → c .add .result .verdict ≡ v → told .verdict ≡ verdictOf v
-  verdict-told e = sym (ap (λ (a : Addition). a .verdict) is-told) ∙ ap verdictOf e
-
-put-table-requires : tie.Need-put-table-requires
-put-table-requires c κs =
-    let d = c .before .before .before in
-    let x = d .before .before .before .before .before .before .args in
-    let g = regionOf (x .base) (x .length) (x .place) (x .rights) in
-    let v = sym (ap (λ (a : Addition). a .verdict) (is-add d)) ∙ verdict-told d (c .before .enum-told .given .1) in
-    let count = ap (λ (a : Addition). a .map .count) (is-told d ∙ is-add d) in
-    (regular-whole (x .map .now) (taken-regular (x .map .now) g v), omega (arith, taken-few (mapOf (x .map .now)) g v))
-
-enum-known-verdict : tie.Need-enum-known-verdict
-enum-known-verdict c = search needs
+enum-known-refusal : tie.Need-enum-known-refusal
+enum-known-refusal c = search needs
 
 same-length : tie.Need-same-length
 same-length c = search needs
 
-returns-2 : tie.Need-returns-2
-returns-2 c =
-    let d = c .before .before .before .before .before .before in
-    let v = verdict-told d (c .before .before .before .before .enum-told .given .1) in (
-      ap verdictNumber (sym v),
-      c .before .before .put-table .ensures ∙ ap (λ (a : Addition). tableOf (a .map)) (is-told d) ∙ sym (after-taken _ (told d) v),
-    )
+returns : tie.Need-returns
+returns c =
+    let e = c .before .before .before .before .add .ensures in
+    (ap verdictNumber (sym (ap verdictOf (c .enum-told .given .1)) ∙ e .0), e .1)
 
 same-length-2 : tie.Need-same-length-2
 same-length-2 c = search needs
 
-returns-3 : tie.Need-returns-3
-returns-3 c =
-    let d = c .before .before .before in
-    let v = verdict-told d (c .before .verdict .given .1) in
-    (ap verdictNumber (sym v), sym (after-refused _ (told d) _ _ v))
+returns-2 : tie.Need-returns-2
+returns-2 c =
+    let e = c .before .before .before .before .before .add .ensures in
+    (ap verdictNumber (sym (ap verdictOf (c .before .refusal .given .1)) ∙ e .0), e .1)
 
 pub reidhintsje-map-add-spec : {M : Type 1} → statement M
 reidhintsje-map-add-spec =
     tie.close
     (tie.spec
-    returns
-    map-of-requires
-    region-of-requires
     add-requires
     enum-told
-    put-table-requires
-    enum-known-verdict
+    enum-known-refusal
     same-length
-    returns-2
+    returns
     same-length-2
-    returns-3)
+    returns-2)

@@ -13,8 +13,8 @@ use Rattle.words.specs.Store.Laws.{store-fits, store-behind, store-adjoining, s
 use Rattle.memory_region.specs.declared.region.Region.{Region}
 use Rattle.memory_map.specs.declared.map.Map.{Map}
 use Rattle.memory_map.specs.Map.{noRegion}
-use Rattle.reidhintsje.specs.Table.{regionBytes, regionsBytes, tableOf}
-use Rattle.reidhintsje.specs.Table.Written.{length-regionBytes, length-regionsBytes, length-tableOf}
+use Rattle.map_table.specs.Table.{regionBytes, regionsBytes, tableOf}
+use Rattle.map_table.specs.Table.Written.{length-regionBytes, length-regionsBytes, length-tableOf}
 
 regions-next : (gs : List Region) (i : ℕ) → i < length gs → regionsBytes (take (suc i) gs) ≡ regionsBytes (take i gs) ++ regionBytes (getD gs i noRegion)
 unfolding regionsBytes

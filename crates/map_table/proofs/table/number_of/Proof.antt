@@ -1,10 +1,10 @@
--- `reidhintsje::table::number_of` meets its contract: the sum is the definition's, and is below 8.
+-- `map_table::table::number_of` meets its contract: the sum is the definition's, and is below 8.
 use borrow.Author.Needs.{needs}
 use native.Mathlib.Omega.{arith}
-use Rattle.reidhintsje.specs.Table.{rightsNumber}
-use Rattle.reidhintsje.specs.Table.Written.{bit-below}
-use Rattle.reidhintsje.proofs.table.number_of.Statement.{statement}
-use Rattle.reidhintsje.proofs.table.number_of.Tie as tie
+use Rattle.map_table.specs.Table.{rightsNumber}
+use Rattle.map_table.specs.Table.Written.{bit-below}
+use Rattle.map_table.proofs.table.number_of.Statement.{statement}
+use Rattle.map_table.proofs.table.number_of.Tie as tie
 
 bit-of-requires : tie.Need-bit-of-requires
 bit-of-requires c κs = search needs

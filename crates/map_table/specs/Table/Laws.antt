@@ -12,7 +12,7 @@ use Rattle.words.specs.Bytes.{littleEndianAt}
 use Rattle.memory_region.specs.declared.region.Region.{Region}
 use Rattle.memory_map.specs.Map.{Addition, taken, refused, add, wellFormed, sound}
 use Rattle.memory_map.specs.Map.Added.{taken-room}
-use Rattle.reidhintsje.specs.Table.{regionOf, regionsIn, rightsKnown, countIn, regular, mapOf, noMap, tableOf, addition, tableAfter}
+use Rattle.map_table.specs.Table.{regionOf, regionsIn, rightsKnown, countIn, regular, mapOf, noMap, tableOf, addition, tableAfter}
 
 -- ---- regular tables
 module _ (t : List ℕ) where

@@ -1,11 +1,11 @@
--- `reidhintsje::table::map_of` meets its contract: no sound map for another table, else the count and the eight regions.
+-- `map_table::table::map_of` meets its contract: no sound map for another table, else the count and the eight regions.
 use borrow.Author.Needs.{needs}
 use mathlib.Core.Path.{sym, _∙_}
 use borrow.Author.Tests.{not-true, not-false}
-use Rattle.reidhintsje.specs.Table.{regionsIn}
-use Rattle.reidhintsje.specs.Table.Laws.{map-of-table, map-of-other}
-use Rattle.reidhintsje.proofs.table.map_of.Statement.{statement}
-use Rattle.reidhintsje.proofs.table.map_of.Tie as tie
+use Rattle.map_table.specs.Table.{regionsIn}
+use Rattle.map_table.specs.Table.Laws.{map-of-table, map-of-other}
+use Rattle.map_table.proofs.table.map_of.Statement.{statement}
+use Rattle.map_table.proofs.table.map_of.Tie as tie
 
 regular-requires : tie.Need-regular-requires
 regular-requires c κs = search needs

@@ -1,10 +1,10 @@
--- `reidhintsje::table::regular` meets its contract: the tests are those of the definition, in its order.
+-- `map_table::table::regular` meets its contract: the tests are those of the definition, in its order.
 use borrow.Author.Needs.{needs}
 use mathlib.Core.Path.{sym, _∙_}
 use native.Mathlib.Omega.{arith}
-use Rattle.reidhintsje.specs.Table.Laws.{other-length, over-count, by-rights}
-use Rattle.reidhintsje.proofs.table.regular.Statement.{statement}
-use Rattle.reidhintsje.proofs.table.regular.Tie as tie
+use Rattle.map_table.specs.Table.Laws.{other-length, over-count, by-rights}
+use Rattle.map_table.proofs.table.regular.Statement.{statement}
+use Rattle.map_table.proofs.table.regular.Tie as tie
 
 returns : tie.Need-returns
 returns c = sym (other-length (c .before .before .args .table .now) (c .if1 .taken))

@@ -1,8 +1,8 @@
--- `reidhintsje::table::region_of` meets its contract: its rights are those of the bits.
+-- `map_table::table::region_of` meets its contract: its rights are those of the bits.
 use borrow.Author.Needs.{needs}
-use Rattle.reidhintsje.specs.Table.{regionOf}
-use Rattle.reidhintsje.proofs.table.region_of.Statement.{statement}
-use Rattle.reidhintsje.proofs.table.region_of.Tie as tie
+use Rattle.map_table.specs.Table.{regionOf}
+use Rattle.map_table.proofs.table.region_of.Statement.{statement}
+use Rattle.map_table.proofs.table.region_of.Tie as tie
 
 rights-of-requires : tie.Need-rights-of-requires
 rights-of-requires c κs = search needs

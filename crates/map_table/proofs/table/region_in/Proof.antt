@@ -1,8 +1,8 @@
--- `reidhintsje::table::region_in` meets its contract: its four words are those of the definition.
+-- `map_table::table::region_in` meets its contract: its four words are those of the definition.
 use borrow.Author.Needs.{needs}
-use Rattle.reidhintsje.specs.Table.{regionIn}
-use Rattle.reidhintsje.proofs.table.region_in.Statement.{statement}
-use Rattle.reidhintsje.proofs.table.region_in.Tie as tie
+use Rattle.map_table.specs.Table.{regionIn}
+use Rattle.map_table.proofs.table.region_in.Statement.{statement}
+use Rattle.map_table.proofs.table.region_in.Tie as tie
 
 read-requires : tie.Need-read-requires
 read-requires c κs = search needs

@@ -1,12 +1,12 @@
--- `reidhintsje::table::rights_known` meets its contract: the loop's invariant: the regions from `i` on decide what all decide.
+-- `map_table::table::rights_known` meets its contract: the loop's invariant: the regions from `i` on decide what all decide.
 use borrow.Author.Needs.{needs}
 use mathlib.Core.Path.{_≡_, ap, sym, _∙_}
 use Prim.Native.Nat.{ℕ, _+_, _-_, _*_, _≤_}
 use native.Mathlib.Omega.{arith}
-use Rattle.reidhintsje.specs.Table.{rightsKnown}
-use Rattle.reidhintsje.specs.Table.Laws.{rights-over, rights-next, rights-none}
-use Rattle.reidhintsje.proofs.table.rights_known.Statement.{statement}
-use Rattle.reidhintsje.proofs.table.rights_known.Tie as tie
+use Rattle.map_table.specs.Table.{rightsKnown}
+use Rattle.map_table.specs.Table.Laws.{rights-over, rights-next, rights-none}
+use Rattle.map_table.proofs.table.rights_known.Statement.{statement}
+use Rattle.map_table.proofs.table.rights_known.Tie as tie
 
 abbrev Inv-loop : tie.InvT-loop
 Inv-loop table count i₀ i = (i ≤ count) × (rightsKnown (count - i) table (4 + 16 * i) ≡ rightsKnown count table 4)

@@ -88,11 +88,6 @@ addition t b n p w =
     if ltb 7 w then record { map = mapOf t; verdict = refused 1 0 }
     else add (mapOf t) (regionOf b n p w)
 
--- what the caller is told
-abbrev pub verdictNumber : Verdict → ℕ
-verdictNumber taken = 0
-verdictNumber (refused n p) = n
-
 -- the table t after an addition to its map: a taken one writes the whole table anew, so that rights past the count are 0 to 7 too; a
 -- refused one leaves every byte as it was
 abbrev pub tableAt : Verdict → List ℕ → List ℕ → List ℕ

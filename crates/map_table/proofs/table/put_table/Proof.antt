@@ -1,4 +1,4 @@
--- `reidhintsje::table::put_table` meets its contract: the count, and then one region behind the other.
+-- `map_table::table::put_table` meets its contract: the count, and then one region behind the other.
 use borrow.Author.Needs.{needs}
 use mathlib.Core.Path.{_≡_, sym, _∙_}
 use Prim.Native.Nat.{_-_, _≤_}
@@ -6,10 +6,10 @@ use native.Mathlib.Omega.{arith}
 use lib.ListN.{length, take, length-map}
 use Rattle.words.specs.Store.{store}
 use Rattle.words.specs.Store.Laws.{store-nil}
-use Rattle.reidhintsje.specs.Table.{regionsBytes}
-use Rattle.reidhintsje.specs.Table.Put.{region-put, table-put}
-use Rattle.reidhintsje.proofs.table.put_table.Statement.{statement}
-use Rattle.reidhintsje.proofs.table.put_table.Tie as tie
+use Rattle.map_table.specs.Table.{regionsBytes}
+use Rattle.map_table.specs.Table.Put.{region-put, table-put}
+use Rattle.map_table.proofs.table.put_table.Statement.{statement}
+use Rattle.map_table.proofs.table.put_table.Tie as tie
 
 abbrev Inv-loop : tie.InvT-loop
 Inv-loop table₀ map i₀ table i = (i ≤ 8) × (length table₀ ≡ 132) × (length table ≡ 132) × (table ≡ store table₀ 4 (regionsBytes (take i (map .regions))))

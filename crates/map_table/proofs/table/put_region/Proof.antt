@@ -1,8 +1,8 @@
--- `reidhintsje::table::put_region` meets its contract: its four words are those of the definition.
+-- `map_table::table::put_region` meets its contract: its four words are those of the definition.
 use borrow.Author.Needs.{needs}
-use Rattle.reidhintsje.specs.Table.{regionBytes}
-use Rattle.reidhintsje.proofs.table.put_region.Statement.{statement}
-use Rattle.reidhintsje.proofs.table.put_region.Tie as tie
+use Rattle.map_table.specs.Table.{regionBytes}
+use Rattle.map_table.proofs.table.put_region.Statement.{statement}
+use Rattle.map_table.proofs.table.put_region.Tie as tie
 
 number-of-requires : tie.Need-number-of-requires
 number-of-requires c κs = search needs
