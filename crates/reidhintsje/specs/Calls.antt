@@ -20,7 +20,7 @@ use Rattle.plan.specs.Packed.{Packed, outputAfter}
 use Rattle.srom_pack.specs.Image.{sromImage, packSrom}
 use Rattle.aplx_pack.specs.Image.{aplxImage, packAplx}
 use Rattle.map_table.specs.Table.{mapOf}
-use Rattle.reidhintsje.specs.Numbers.{loadNumbers, replyNumbers, readNumbers, packNumbers}
+use Rattle.outcome_numbers.specs.Numbers.{loadNumbers, replyNumbers, readNumbers, packNumbers}
 
 -- ---- the map
 -- an addition: 0 where it is taken, else the refusal's number

@@ -1,4 +1,3 @@
--- The library for C and Rust: outcomes as numbers, and what each call gives.
-pub mod Numbers
+-- The library for C and Rust: what each call gives.
 pub mod Calls
 pub mod Examples

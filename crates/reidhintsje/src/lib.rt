@@ -1,6 +1,5 @@
 // The library for C and Rust: every call takes bytes and numbers and answers in numbers.
 pub mod table; // the calls of a map
-mod numbers; // outcomes as eight numbers
 pub mod load; // the two loaders
 pub mod plans; // the reader and the packers
 pub mod packet; // the answerer

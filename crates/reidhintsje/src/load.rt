@@ -1,10 +1,10 @@
 // The two loaders.
 ghost use mathlib.Core.Path.{_≡_};
-ghost use Rattle.reidhintsje.specs.Numbers.{first};
+ghost use Rattle.outcome_numbers.specs.Numbers.{first};
 ghost use Rattle.reidhintsje.specs.Calls.{sromCall, aplxCall};
-use crate::numbers::load_parts;
-use crate::numbers::put;
 use map_table::table::map_of;
+use outcome_numbers::numbers::load_parts;
+use outcome_numbers::numbers::put;
 
 // Loads a serial ROM from an offset on.
 #[no_mangle]

@@ -1,10 +1,10 @@
 // The answerer.
 ghost use mathlib.Core.Path.{_≡_};
-ghost use Rattle.reidhintsje.specs.Numbers.{first};
+ghost use Rattle.outcome_numbers.specs.Numbers.{first};
 ghost use Rattle.reidhintsje.specs.Calls.{identityOf, scpCall};
-use crate::numbers::put;
-use crate::numbers::reply_parts;
 use map_table::table::map_of;
+use outcome_numbers::numbers::put;
+use outcome_numbers::numbers::reply_parts;
 use scp::answer::Identity;
 
 // Five numbers; of each as many bits count as its field has.

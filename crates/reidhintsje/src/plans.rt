@@ -5,13 +5,13 @@ ghost use Rattle.plan.specs.Code.{unitOf};
 ghost use Rattle.plan.specs.Code.Packer as packer;
 ghost use Rattle.srom_pack.specs.Image.{sromImage};
 ghost use Rattle.aplx_pack.specs.Image.{aplxImage};
-ghost use Rattle.reidhintsje.specs.Numbers.{first};
-ghost use Rattle.reidhintsje.specs.Numbers.Laws.{tooSmall};
+ghost use Rattle.outcome_numbers.specs.Numbers.{first};
+ghost use Rattle.outcome_numbers.specs.Numbers.Laws.{tooSmall};
 ghost use Rattle.reidhintsje.specs.Calls.{unitAt, readCall, imageLength, sromPackCall, aplxPackCall};
-use crate::numbers::packed_parts;
-use crate::numbers::put;
-use crate::numbers::read_parts;
 use outcome::answer::OUTPUT_TOO_SMALL;
+use outcome_numbers::numbers::packed_parts;
+use outcome_numbers::numbers::put;
+use outcome_numbers::numbers::read_parts;
 use plan::packed::Answer;
 use plan::piece::Target;
 

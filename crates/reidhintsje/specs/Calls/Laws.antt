@@ -10,9 +10,9 @@ use Rattle.scp.specs.Answer.{Reply, Answered}
 use Rattle.plan.specs.Plan.{Piece, Read, refused, pieces}
 use Rattle.plan.specs.Code.{refuses, outcomeOf}
 use Rattle.plan.specs.Packed.{Outcome}
-use Rattle.reidhintsje.specs.declared.numbers.Parts.{Parts}
-use Rattle.reidhintsje.specs.Numbers.{numbers, first, loadParts, replyParts, packedParts, packNumbers}
-use Rattle.reidhintsje.specs.Numbers.Laws.{tooSmall, other-parts}
+use Rattle.outcome_numbers.specs.declared.numbers.Parts.{Parts}
+use Rattle.outcome_numbers.specs.Numbers.{numbers, first, loadParts, replyParts, packedParts, packNumbers}
+use Rattle.outcome_numbers.specs.Numbers.Laws.{tooSmall, other-parts}
 use Rattle.reidhintsje.specs.Calls.{loading, answering, imageLength}
 
 -- a call that returned n and left the numbers l, written from the parts x

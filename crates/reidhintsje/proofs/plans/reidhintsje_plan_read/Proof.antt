@@ -1,7 +1,7 @@
 -- `reidhintsje::plans::reidhintsje_plan_read` meets its contract: the reader answers for the unit of the target.
 use borrow.Author.Needs.{needs}
 use mathlib.Core.Path.{ap, _∙_}
-use Rattle.reidhintsje.specs.Numbers.{readParts}
+use Rattle.outcome_numbers.specs.Numbers.{readParts}
 use Rattle.reidhintsje.specs.Calls.Laws.{put-call}
 use Rattle.reidhintsje.proofs.plans.reidhintsje_plan_read.Statement.{statement}
 use Rattle.reidhintsje.proofs.plans.reidhintsje_plan_read.Tie as tie

@@ -1,7 +1,7 @@
--- `reidhintsje::numbers::needed` meets its contract: the test is that of the definition.
+-- `outcome_numbers::numbers::needed` meets its contract: the test is that of the definition.
 use borrow.Author.Tests.{eq-eqb, ne-eqb}
-use Rattle.reidhintsje.proofs.numbers.needed.Statement.{statement}
-use Rattle.reidhintsje.proofs.numbers.needed.Tie as tie
+use Rattle.outcome_numbers.proofs.numbers.needed.Statement.{statement}
+use Rattle.outcome_numbers.proofs.numbers.needed.Tie as tie
 
 returns : tie.Need-returns
 returns c = simp (eq-eqb _ _ (c .if1 .taken))

@@ -1,7 +1,7 @@
--- `reidhintsje::numbers::stop_parts` meets its contract: one case for each stop.
+-- `outcome_numbers::numbers::stop_parts` meets its contract: one case for each stop.
 use borrow.Author.Needs.{needs}
-use Rattle.reidhintsje.proofs.numbers.stop_parts.Statement.{statement}
-use Rattle.reidhintsje.proofs.numbers.stop_parts.Tie as tie
+use Rattle.outcome_numbers.proofs.numbers.stop_parts.Statement.{statement}
+use Rattle.outcome_numbers.proofs.numbers.stop_parts.Tie as tie
 
 enum-known-stop : tie.Need-enum-known-stop
 enum-known-stop c = search needs

@@ -11,7 +11,7 @@ use Rattle.outcome.specs.Outcome.{Kind, arm, thumb, end, unknown, run}
 use Rattle.plan.specs.Code as read
 use Rattle.plan.specs.Packed as packed
 use Rattle.scp.specs.Answer as scp
-use Rattle.reidhintsje.specs.declared.numbers.Parts.{Parts}
+use Rattle.outcome_numbers.specs.declared.numbers.Parts.{Parts}
 
 -- ---- the layout
 -- the eight numbers, from their parts

@@ -1,8 +1,8 @@
--- `reidhintsje::numbers::packed_parts` meets its contract: a refusal with the bytes needed, or the length of the image.
+-- `outcome_numbers::numbers::packed_parts` meets its contract: a refusal with the bytes needed, or the length of the image.
 use borrow.Author.Needs.{needs}
 use mathlib.Core.Path.{_∙_}
-use Rattle.reidhintsje.proofs.numbers.packed_parts.Statement.{statement}
-use Rattle.reidhintsje.proofs.numbers.packed_parts.Tie as tie
+use Rattle.outcome_numbers.proofs.numbers.packed_parts.Statement.{statement}
+use Rattle.outcome_numbers.proofs.numbers.packed_parts.Tie as tie
 
 enum-known-answer : tie.Need-enum-known-answer
 enum-known-answer c = search needs

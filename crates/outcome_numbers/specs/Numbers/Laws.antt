@@ -4,7 +4,7 @@ use mathlib.Core.Bool.{Bool, false}
 use Prim.Native.Nat.{ℕ}
 use lib.Dec.{eqb}
 use Rattle.plan.specs.Packed.{Outcome, refusal, sized}
-use Rattle.reidhintsje.specs.Numbers.{packedParts}
+use Rattle.outcome_numbers.specs.Numbers.{packedParts}
 
 -- the output was too small for the image
 abbrev pub tooSmall : Outcome → Bool

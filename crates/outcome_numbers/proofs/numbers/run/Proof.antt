@@ -1,7 +1,7 @@
--- `reidhintsje::numbers::run` meets its contract: one case for each kind of entry.
+-- `outcome_numbers::numbers::run` meets its contract: one case for each kind of entry.
 use borrow.Author.Needs.{needs}
-use Rattle.reidhintsje.proofs.numbers.run.Statement.{statement}
-use Rattle.reidhintsje.proofs.numbers.run.Tie as tie
+use Rattle.outcome_numbers.proofs.numbers.run.Statement.{statement}
+use Rattle.outcome_numbers.proofs.numbers.run.Tie as tie
 
 enum-known-entry : tie.Need-enum-known-entry
 enum-known-entry c = search needs

@@ -1,7 +1,7 @@
--- `reidhintsje::numbers::load_parts` meets its contract: a refusal, or the stop.
+-- `outcome_numbers::numbers::load_parts` meets its contract: a refusal, or the stop.
 use borrow.Author.Needs.{needs}
-use Rattle.reidhintsje.proofs.numbers.load_parts.Statement.{statement}
-use Rattle.reidhintsje.proofs.numbers.load_parts.Tie as tie
+use Rattle.outcome_numbers.proofs.numbers.load_parts.Statement.{statement}
+use Rattle.outcome_numbers.proofs.numbers.load_parts.Tie as tie
 
 enum-known-answer : tie.Need-enum-known-answer
 enum-known-answer c = search needs

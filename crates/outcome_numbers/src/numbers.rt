@@ -4,7 +4,7 @@ ghost use Rattle.outcome.specs.Outcome.{outcomeOf, stopOf, accepted, kindOf, ad
 ghost use Rattle.plan.specs.Code as reader;
 ghost use Rattle.plan.specs.Code.Packer as packer;
 ghost use Rattle.scp.specs.Code.{replyOf};
-ghost use Rattle.reidhintsje.specs.Numbers.{numbers, refusedParts, needed, runParts, countParts, loadParts, replyParts, readParts, packedParts};
+ghost use Rattle.outcome_numbers.specs.Numbers.{numbers, refusedParts, needed, runParts, countParts, loadParts, replyParts, readParts, packedParts};
 use outcome::answer::Answer;
 use outcome::answer::Entry;
 use outcome::answer::OUTPUT_TOO_SMALL;
@@ -42,19 +42,19 @@ const THUMB: u64 = 2;
 const SCP_OUTPUT: u64 = 272;
 
 // The parts of an outcome, in the order of the numbers. What a case does not name is 0.
-pub(crate) struct Parts {
-    refusal: u32,
-    place: u64,
-    event: u64,
-    kind: u64,
-    address: u64,
-    resume: u64,
-    items: u64,
-    bytes: u64,
+pub struct Parts {
+    pub refusal: u32,
+    pub place: u64,
+    pub event: u64,
+    pub kind: u64,
+    pub address: u64,
+    pub resume: u64,
+    pub items: u64,
+    pub bytes: u64,
 }
 
 // Writes the numbers; returns that of the refusal, or 0.
-pub(crate) fn put(outcome: &mut [u64; 8], parts: Parts) -> u32
+pub fn put(outcome: &mut [u64; 8], parts: Parts) -> u32
     ensures { λ r. ⌜ (r ≡ parts .refusal) × (now (outcome .exit) ≡ numbers parts) ⌝ }
 {
     *outcome = [
@@ -163,7 +163,7 @@ fn stop_parts(stop: Stop, taken: u64, stored: u64) -> Parts
 }
 
 // A load.
-pub(crate) fn load_parts(answer: Answer) -> Parts
+pub fn load_parts(answer: Answer) -> Parts
     ensures { λ r. ⌜ r ≡ loadParts (outcomeOf answer) ⌝ }
 {
     match answer {
@@ -177,7 +177,7 @@ pub(crate) fn load_parts(answer: Answer) -> Parts
 }
 
 // A packet's reply.
-pub(crate) fn reply_parts(reply: Reply) -> Parts
+pub fn reply_parts(reply: Reply) -> Parts
     ensures { λ r. ⌜ r ≡ replyParts (replyOf reply) ⌝ }
 {
     match reply {
@@ -190,7 +190,7 @@ pub(crate) fn reply_parts(reply: Reply) -> Parts
 }
 
 // A plan that was read.
-pub(crate) fn read_parts(answer: plan::read::Answer) -> Parts
+pub fn read_parts(answer: plan::read::Answer) -> Parts
     ensures { λ r. ⌜ r ≡ readParts (reader.outcomeIs answer) ⌝ }
 {
     match answer {
@@ -204,7 +204,7 @@ pub(crate) fn read_parts(answer: plan::read::Answer) -> Parts
 }
 
 // A plan that was packed, whose image has so many bytes.
-pub(crate) fn packed_parts(answer: plan::packed::Answer, image: u64) -> Parts
+pub fn packed_parts(answer: plan::packed::Answer, image: u64) -> Parts
     ensures { λ r. ⌜ r ≡ packedParts image (packer.outcomeIs answer) ⌝ }
 {
     match answer {

@@ -1,7 +1,7 @@
--- `reidhintsje::numbers::read_parts` meets its contract: a refusal, or the count of pieces.
+-- `outcome_numbers::numbers::read_parts` meets its contract: a refusal, or the count of pieces.
 use borrow.Author.Needs.{needs}
-use Rattle.reidhintsje.proofs.numbers.read_parts.Statement.{statement}
-use Rattle.reidhintsje.proofs.numbers.read_parts.Tie as tie
+use Rattle.outcome_numbers.proofs.numbers.read_parts.Statement.{statement}
+use Rattle.outcome_numbers.proofs.numbers.read_parts.Tie as tie
 
 enum-known-answer : tie.Need-enum-known-answer
 enum-known-answer c = search needs

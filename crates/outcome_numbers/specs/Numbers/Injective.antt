@@ -10,7 +10,7 @@ use Rattle.outcome.specs.Outcome.{Kind, arm, thumb, end, unknown, run}
 use Rattle.plan.specs.Code as read
 use Rattle.plan.specs.Packed as packed
 use Rattle.scp.specs.Answer as scp
-use Rattle.reidhintsje.specs.Numbers.{END, UNKNOWN, RUN, START, RESPONSE, SILENT, READ, PACKED, loadNumbers, replyNumbers, readNumbers, packNumbers}
+use Rattle.outcome_numbers.specs.Numbers.{END, UNKNOWN, RUN, START, RESPONSE, SILENT, READ, PACKED, loadNumbers, replyNumbers, readNumbers, packNumbers}
 
 -- ---- the numbers by name
 module _ (l : List ℕ) where

@@ -1,8 +1,8 @@
--- `reidhintsje::numbers::reply_parts` meets its contract: one case for each reply.
+-- `outcome_numbers::numbers::reply_parts` meets its contract: one case for each reply.
 use borrow.Author.Needs.{needs}
 use mathlib.Core.Path.{_∙_}
-use Rattle.reidhintsje.proofs.numbers.reply_parts.Statement.{statement}
-use Rattle.reidhintsje.proofs.numbers.reply_parts.Tie as tie
+use Rattle.outcome_numbers.proofs.numbers.reply_parts.Statement.{statement}
+use Rattle.outcome_numbers.proofs.numbers.reply_parts.Tie as tie
 
 enum-known-reply : tie.Need-enum-known-reply
 enum-known-reply c = search needs

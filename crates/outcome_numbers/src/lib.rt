@@ -1,0 +1,2 @@
+// Outcomes as eight numbers, for a caller that takes no enum.
+pub mod numbers; // the numbers of each outcome
