@@ -1,24 +1,15 @@
 // One line after the other.
-use crate::calls::arguments;
-use crate::calls::call_of;
 use crate::make::make;
 use crate::output;
-use crate::scan::NONE;
-use crate::scan::behind;
-use crate::scan::behind_word;
-use crate::scan::place_of;
-
-// Whether the line says nothing.
-fn silent(line: &[u8]) -> bool {
-    if line.len() == 0 {
-        return true;
-    }
-    behind(line, 0, b'#') != NONE
-}
+use call_text::calls::arguments;
+use call_text::calls::call_of;
+use call_text::line::name_at;
+use call_text::line::silent;
+use call_text::scan::place_of;
 
 // Whether the line names the next call; the name is written then.
 fn name(line: &[u8]) -> bool {
-    let from = behind_word(line, b": ");
+    let from = name_at(line);
     if from > line.len() {
         return false;
     }
@@ -29,7 +20,7 @@ fn name(line: &[u8]) -> bool {
 
 // Writes the name of the call.
 fn title(line: &[u8]) {
-    let end = place_of(line, 0, b' ');
+    let end = place_of(line, b' ');
     output::text(&line[..end]);
     output::text(b"\n");
 }
@@ -45,17 +36,7 @@ fn call(
 ) -> bool {
     let mut numbers = [0usize; 9];
     let called = call_of(line);
-    if !arguments(
-        line,
-        place_of(line, 0, b' '),
-        called,
-        kept,
-        &mut numbers,
-        table,
-        memory,
-        out,
-        input,
-    ) {
+    if !arguments(line, called, kept, &mut numbers, table, memory, out, input) {
         return false;
     }
     title(line);
@@ -93,7 +74,7 @@ pub(crate) fn all(
     let mut at: usize = 0;
     let mut number: u64 = 0;
     while at < text.len() {
-        let end = place_of(text, at, b'\n');
+        let end = at + place_of(&text[at..], b'\n');
         number += 1;
         if !one(&text[at..end], kept, table, memory, out, input) {
             output::text(b"not a call: line ");
