@@ -1,15 +1,24 @@
 // One line after the other.
+use crate::calls::arguments;
+use crate::calls::call_of;
 use crate::make::make;
 use crate::output;
-use call_text::calls::arguments;
-use call_text::calls::call_of;
-use call_text::line::name_at;
-use call_text::line::silent;
-use call_text::scan::place_of;
+use crate::scan::NONE;
+use crate::scan::behind;
+use crate::scan::behind_word;
+use crate::scan::place_of;
+
+// Whether the line says nothing.
+fn silent(line: &[u8]) -> bool {
+    if line.len() == 0 {
+        return true;
+    }
+    behind(line, 0, b'#') != NONE
+}
 
 // Whether the line names the next call; the name is written then.
 fn name(line: &[u8]) -> bool {
-    let from = name_at(line);
+    let from = behind_word(line, b": ");
     if from > line.len() {
         return false;
     }
@@ -20,7 +29,7 @@ fn name(line: &[u8]) -> bool {
 
 // Writes the name of the call.
 fn title(line: &[u8]) {
-    let end = place_of(line, b' ');
+    let end = place_of(line, 0, b' ');
     output::text(&line[..end]);
     output::text(b"\n");
 }
@@ -36,7 +45,17 @@ fn call(
 ) -> bool {
     let mut numbers = [0usize; 9];
     let called = call_of(line);
-    if !arguments(line, called, kept, &mut numbers, table, memory, out, input) {
+    if !arguments(
+        line,
+        place_of(line, 0, b' '),
+        called,
+        kept,
+        &mut numbers,
+        table,
+        memory,
+        out,
+        input,
+    ) {
         return false;
     }
     title(line);
@@ -74,7 +93,7 @@ pub(crate) fn all(
     let mut at: usize = 0;
     let mut number: u64 = 0;
     while at < text.len() {
-        let end = at + place_of(&text[at..], b'\n');
+        let end = place_of(text, at, b'\n');
         number += 1;
         if !one(&text[at..end], kept, table, memory, out, input) {
             output::text(b"not a call: line ");

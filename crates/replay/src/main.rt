@@ -3,6 +3,9 @@ ghost use mathlib.Core.Path.{_≡_};
 ghost use lib.ListN.{length};
 
 mod output; // text, numbers and bytes
+mod scan; // the characters of a line
+mod argument; // one argument of a call
+mod calls; // which call a line names, and its arguments
 mod library; // the calls of the library for C
 mod maps; // the questions that a map alone answers
 mod make; // makes a call

@@ -33,6 +33,10 @@ pub(crate) fn one(n: u64) {
     text(b"\n");
 }
 
+pub(crate) fn returned(n: u32) {
+    one(n as u64);
+}
+
 // Two numbers on a line.
 pub(crate) fn two(a: u64, b: u64) {
     number(a);

@@ -1,10 +1,10 @@
--- `call_text::scan::pairs` is safe and ends: a turn for each pair of the line.
+-- `replay::scan::pairs` is safe and ends: a turn for each pair of the line.
 use borrow.Author.Needs.{needs}
 use mathlib.Core.Path.{_≡_}
 use Prim.Native.Nat.{_-_}
 use lib.ListN.{length}
-use Rattle.call_text.proofs.scan.pairs.Statement.{statement}
-use Rattle.call_text.proofs.scan.pairs.Tie as tie
+use Rattle.replay.proofs.scan.pairs.Statement.{statement}
+use Rattle.replay.proofs.scan.pairs.Tie as tie
 
 abbrev Inv-loop : tie.InvT-loop
 Inv-loop line from buffer₀ count at₀ n₀ buffer at n = length buffer ≡ length buffer₀

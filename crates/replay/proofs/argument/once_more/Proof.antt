@@ -1,10 +1,10 @@
--- `call_text::argument::once_more` is safe and ends: a turn for each byte.
+-- `replay::argument::once_more` is safe and ends: a turn for each byte.
 use borrow.Author.Needs.{needs}
 use mathlib.Core.Path.{_≡_}
 use Prim.Native.Nat.{_-_}
 use lib.ListN.{length}
-use Rattle.call_text.proofs.argument.once_more.Statement.{statement}
-use Rattle.call_text.proofs.argument.once_more.Tie as tie
+use Rattle.replay.proofs.argument.once_more.Statement.{statement}
+use Rattle.replay.proofs.argument.once_more.Tie as tie
 
 abbrev Inv-loop : tie.InvT-loop
 Inv-loop buffer₀ from to n i₀ end₀ buffer i end = length buffer ≡ length buffer₀

@@ -1,9 +1,9 @@
--- `call_text::scan::behind_word` is safe and ends: a turn for each byte of the word.
+-- `replay::scan::behind_word` is safe and ends: a turn for each byte of the word.
 use borrow.Author.Needs.{needs}
 use Prim.Native.Nat.{_-_}
 use lib.ListN.{length}
-use Rattle.call_text.proofs.scan.behind_word.Statement.{statement}
-use Rattle.call_text.proofs.scan.behind_word.Tie as tie
+use Rattle.replay.proofs.scan.behind_word.Statement.{statement}
+use Rattle.replay.proofs.scan.behind_word.Tie as tie
 
 abbrev Inv-loop : tie.InvT-loop
 Inv-loop line word i₀ i = Unit {0}

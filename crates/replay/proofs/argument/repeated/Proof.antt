@@ -1,9 +1,9 @@
--- `call_text::argument::repeated` is safe and ends: a turn for each time.
+-- `replay::argument::repeated` is safe and ends: a turn for each time.
 use borrow.Author.Needs.{needs}
 use mathlib.Core.Path.{_≡_}
 use lib.ListN.{length}
-use Rattle.call_text.proofs.argument.repeated.Statement.{statement}
-use Rattle.call_text.proofs.argument.repeated.Tie as tie
+use Rattle.replay.proofs.argument.repeated.Statement.{statement}
+use Rattle.replay.proofs.argument.repeated.Tie as tie
 
 abbrev Inv-loop : tie.InvT-loop
 Inv-loop buffer₀ from n times end₀ left₀ buffer end left = length buffer ≡ length buffer₀

@@ -1,9 +1,9 @@
--- `call_text::scan::digits` is safe and ends: a turn for each digit of the line.
+-- `replay::scan::digits` is safe and ends: a turn for each digit of the line.
 use borrow.Author.Needs.{needs}
 use Prim.Native.Nat.{_-_}
 use lib.ListN.{length}
-use Rattle.call_text.proofs.scan.digits.Statement.{statement}
-use Rattle.call_text.proofs.scan.digits.Tie as tie
+use Rattle.replay.proofs.scan.digits.Statement.{statement}
+use Rattle.replay.proofs.scan.digits.Tie as tie
 
 abbrev Inv-loop : tie.InvT-loop
 Inv-loop line from at₀ value₀ at value = Unit {0}

@@ -1,18 +1,18 @@
--- `call_text::scan::place_of` is safe and ends, and its answer lies in the text: a turn for each byte.
+-- `replay::scan::place_of` is safe and ends, and its answer lies in the text: a turn for each byte.
 use borrow.Author.Needs.{needs}
 use mathlib.Core.Path.{sym}
 use native.Mathlib.Omega.{arith}
 use Prim.Native.Nat.{_-_, _≤_}
 use lib.ListN.{length}
 use lib.Seq.{length-take-le}
-use Rattle.call_text.proofs.scan.place_of.Statement.{statement}
-use Rattle.call_text.proofs.scan.place_of.Tie as tie
+use Rattle.replay.proofs.scan.place_of.Statement.{statement}
+use Rattle.replay.proofs.scan.place_of.Tie as tie
 
 abbrev Inv-loop : tie.InvT-loop
-Inv-loop text character at₀ at = at ≤ length text
+Inv-loop text from character at₀ at = (from ≤ at) × (at ≤ length text)
 
 abbrev μ-loop : tie.MeasureT-loop
-μ-loop text character at₀ at = length text - at
+μ-loop text from character at₀ at = length text - at
 
 loop-holds : tie.Need-loop-holds Inv-loop μ-loop
 loop-holds c = search needs
@@ -21,7 +21,7 @@ shared-slice-read-if1 : tie.Need-shared-slice-read-if1 Inv-loop μ-loop
 shared-slice-read-if1 c = search needs
 
 returns : tie.Need-returns Inv-loop μ-loop
-returns c = (omega arith, sym (length-take-le _ _ (omega arith)))
+returns c = (omega arith, (omega arith, sym (length-take-le _ _ (omega arith))))
 
 add-at : tie.Need-add-at Inv-loop μ-loop
 add-at c = search needs
@@ -33,7 +33,7 @@ loop-again : tie.Need-loop-again Inv-loop μ-loop
 loop-again c = search needs
 
 returns-2 : tie.Need-returns-2 Inv-loop μ-loop
-returns-2 c = (omega arith, sym (length-take-le _ _ (omega arith)))
+returns-2 c = (omega arith, (omega arith, sym (length-take-le _ _ (omega arith))))
 
 pub place-of-spec : {M : Type 1} → statement M
 place-of-spec =

@@ -4,7 +4,6 @@ use crate::argument::bytes;
 use crate::argument::number;
 use crate::scan::NONE;
 use crate::scan::behind_word;
-use crate::scan::place_of;
 
 // The number of the call that changes a map or a memory, or 0.
 fn load_of(line: &[u8]) -> u32 {
@@ -52,7 +51,7 @@ fn question_of(line: &[u8]) -> u32 {
 }
 
 // The number of the call that a line names, or 0.
-pub fn call_of(line: &[u8]) -> u32 {
+pub(crate) fn call_of(line: &[u8]) -> u32 {
     let load = load_of(line);
     if load != 0 {
         return load;
@@ -131,9 +130,10 @@ fn argument(
     }
 }
 
-// All arguments; whether the line ends behind the last one.
-pub fn arguments(
+// All arguments from a place on; whether the line ends behind the last one.
+pub(crate) fn arguments(
     line: &[u8],
+    from: usize,
     call: u32,
     kept: &mut [usize; 4],
     numbers: &mut [usize; 9],
@@ -142,7 +142,7 @@ pub fn arguments(
     out: &mut [u8; 8192],
     input: &mut [u8; 8192],
 ) -> bool {
-    let mut at = place_of(line, b' ');
+    let mut at = from;
     let mut i: usize = 0;
     while i < 9 {
         at = argument(line, at, call, i, kept, numbers, table, memory, out, input);

@@ -1,10 +1,10 @@
--- `call_text::argument::parts` is safe and ends: a turn for each part, and the next one begins further on.
+-- `replay::argument::parts` is safe and ends: a turn for each part, and the next one begins further on.
 use borrow.Author.Needs.{needs}
 use mathlib.Core.Path.{_≡_}
 use Prim.Native.Nat.{_-_}
 use lib.ListN.{length}
-use Rattle.call_text.proofs.argument.parts.Statement.{statement}
-use Rattle.call_text.proofs.argument.parts.Tie as tie
+use Rattle.replay.proofs.argument.parts.Statement.{statement}
+use Rattle.replay.proofs.argument.parts.Tie as tie
 
 abbrev Inv-loop : tie.InvT-loop
 Inv-loop line from buffer₀ at₀ n₀ buffer at n = length buffer ≡ length buffer₀

@@ -1,7 +1,7 @@
 // The characters of a line: places, words, decimal numbers, pairs of hex digits.
 ghost use Prim.Native.Nat.{_≤_};
-ghost use mathlib.Core.Path.{_≡_};
-ghost use lib.ListN.{length, take};
+ghost use lib.ListN.{length};
+ghost use Rattle.io.specs.Counts.{Counts};
 
 // Behind every line: what was looked for does not stand there.
 pub(crate) const NONE: usize = 0xffffffff;
@@ -29,12 +29,12 @@ pub(crate) fn behind(line: &[u8], at: usize, character: u8) -> usize {
     NONE
 }
 
-// The place of the first such character, or the end. The second part follows from the first; both are stated, so that the proof of `&text[..r]`
-// finds them.
-pub fn place_of(text: &[u8], character: u8) -> usize
-    ensures { λ r. ⌜ (r ≤ length (now (text .entry))) × (r ≡ length (take r (now (text .entry)))) ⌝ }
+// The place of the first such character from a place on, or the end.
+pub(crate) fn place_of(text: &[u8], from: usize, character: u8) -> usize
+    requires { ⌜ from ≤ length (now text) ⌝ }
+    ensures { λ r. ⌜ (from ≤ r) × Counts r (now (text .entry)) ⌝ }
 {
-    let mut at: usize = 0;
+    let mut at = from;
     while at < text.len() {
         if text[at] == character {
             return at;
