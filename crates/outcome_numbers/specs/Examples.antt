@@ -6,7 +6,8 @@ use Rattle.outcome.specs.Outcome.{arm, thumb, end, unknown, run}
 use Rattle.plan.specs.Code as read
 use Rattle.plan.specs.Packed as packed
 use Rattle.scp.specs.Answer as scp
-use Rattle.outcome_numbers.specs.Numbers.{loadNumbers, readNumbers, packNumbers, replyNumbers}
+use Rattle.flood_fill.specs.Answer as flood
+use Rattle.outcome_numbers.specs.Numbers.{loadNumbers, readNumbers, packNumbers, replyNumbers, messageNumbers}
 
 record Loads : Type 0 where
   pub refusal : loadNumbers (load.refused 4 7) ≡ 4 ∷ 7 ∷ 0 ∷ 0 ∷ 0 ∷ 0 ∷ 0 ∷ 0 ∷ []
@@ -38,3 +39,14 @@ record Plans : Type 0 where
 
 plans : Plans
 plans = record { not-read = refl; read-whole = refl; not-packed = refl; no-room = refl; packed-whole = refl }
+
+record Messages : Type 0 where
+  pub too-short : messageNumbers (flood.refused 24 0) ≡ 24 ∷ 0 ∷ 0 ∷ 0 ∷ 0 ∷ 0 ∷ 0 ∷ 0 ∷ []
+  pub kept : messageNumbers flood.accepted ≡ 0 ∷ 0 ∷ 9 ∷ 0 ∷ 0 ∷ 0 ∷ 0 ∷ 0 ∷ []
+  pub not-kept : messageNumbers flood.ignored ≡ 0 ∷ 0 ∷ 10 ∷ 0 ∷ 0 ∷ 0 ∷ 0 ∷ 0 ∷ []
+  -- 5 words are missing, of which word 3 is the lowest
+  pub lacks : messageNumbers (flood.missing 5 3) ≡ 0 ∷ 3 ∷ 11 ∷ 0 ∷ 0 ∷ 0 ∷ 5 ∷ 0 ∷ []
+  pub complete : messageNumbers flood.done ≡ 0 ∷ 0 ∷ 12 ∷ 0 ∷ 0 ∷ 0 ∷ 0 ∷ 0 ∷ []
+
+messages : Messages
+messages = record { too-short = refl; kept = refl; not-kept = refl; lacks = refl; complete = refl }

@@ -11,6 +11,7 @@ use Rattle.outcome.specs.Outcome.{Kind, arm, thumb, end, unknown, run}
 use Rattle.plan.specs.Code as read
 use Rattle.plan.specs.Packed as packed
 use Rattle.scp.specs.Answer as scp
+use Rattle.flood_fill.specs.Answer as flood
 use Rattle.outcome_numbers.specs.declared.numbers.Parts.{Parts}
 
 -- ---- the layout
@@ -57,6 +58,22 @@ READ = 7
 -- a plan was packed
 abbrev pub PACKED : ℕ
 PACKED = 8
+
+-- a flood-fill message was done
+abbrev pub ACCEPTED : ℕ
+ACCEPTED = 9
+
+-- a flood-fill message changed nothing, and that is no error
+abbrev pub IGNORED : ℕ
+IGNORED = 10
+
+-- a block lacks words
+abbrev pub MISSING : ℕ
+MISSING = 11
+
+-- a block is complete
+abbrev pub DONE : ℕ
+DONE = 12
 
 -- the kind of a run: 0 where there is none, 1 ARM, 2 Thumb
 abbrev pub kindNumber : Kind → ℕ
@@ -118,3 +135,15 @@ packedParts k (packed.sized n) = countParts PACKED 0 n
 
 abbrev pub packNumbers : ℕ → packed.Outcome → List ℕ
 packNumbers k x = numbers (packedParts k x)
+
+-- ---- flood-fill messages: of a block that lacks words how many, and the lowest
+abbrev pub messageParts : flood.Answer → Parts
+messageParts (flood.refused n p) = refusedParts n p 0
+messageParts flood.accepted = countParts ACCEPTED 0 0
+messageParts flood.ignored = countParts IGNORED 0 0
+messageParts (flood.missing n l) =
+    record { refusal = 0; place = l; event = MISSING; kind = 0; address = 0; resume = 0; items = n; bytes = 0 }
+messageParts flood.done = countParts DONE 0 0
+
+abbrev pub messageNumbers : flood.Answer → List ℕ
+messageNumbers x = numbers (messageParts x)

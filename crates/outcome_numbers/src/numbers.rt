@@ -4,7 +4,8 @@ ghost use Rattle.outcome.specs.Outcome.{outcomeOf, stopOf, accepted, kindOf, ad
 ghost use Rattle.plan.specs.Code as reader;
 ghost use Rattle.plan.specs.Code.Packer as packer;
 ghost use Rattle.scp.specs.Code.{replyOf};
-ghost use Rattle.outcome_numbers.specs.Numbers.{numbers, refusedParts, needed, runParts, countParts, loadParts, replyParts, readParts, packedParts};
+ghost use Rattle.flood_fill.specs.Answer.{answerIs};
+ghost use Rattle.outcome_numbers.specs.Numbers.{numbers, refusedParts, needed, runParts, countParts, loadParts, replyParts, readParts, packedParts, messageParts};
 use outcome::answer::Answer;
 use outcome::answer::Entry;
 use outcome::answer::OUTPUT_TOO_SMALL;
@@ -30,6 +31,14 @@ const SILENT: u64 = 6;
 const READ: u64 = 7;
 
 const PACKED: u64 = 8;
+
+const ACCEPTED: u64 = 9;
+
+const IGNORED: u64 = 10;
+
+const MISSING: u64 = 11;
+
+const DONE: u64 = 12;
 
 // Kinds of a run.
 const NO_KIND: u64 = 0;
@@ -210,5 +219,27 @@ pub fn packed_parts(answer: plan::packed::Answer, image: u64) -> Parts
     match answer {
         plan::packed::Answer::Refused(refusal) => refused(refusal, needed(refusal.number, image)),
         plan::packed::Answer::Packed { size } => count(PACKED, 0, size as u64),
+    }
+}
+
+// A flood-fill message.
+pub fn message_parts(answer: flood_fill::receiver::Answer) -> Parts
+    ensures { λ r. ⌜ r ≡ messageParts (answerIs answer) ⌝ }
+{
+    match answer {
+        flood_fill::receiver::Answer::Refused(refusal) => refused(refusal, 0),
+        flood_fill::receiver::Answer::Accepted => count(ACCEPTED, 0, 0),
+        flood_fill::receiver::Answer::Ignored => count(IGNORED, 0, 0),
+        flood_fill::receiver::Answer::Missing { number, lowest } => Parts {
+            refusal: 0,
+            place: lowest as u64,
+            event: MISSING,
+            kind: NO_KIND,
+            address: 0,
+            resume: 0,
+            items: number as u64,
+            bytes: 0,
+        },
+        flood_fill::receiver::Answer::Done => count(DONE, 0, 0),
     }
 }

@@ -10,7 +10,8 @@ use Rattle.outcome.specs.Outcome.{Kind, arm, thumb, end, unknown, run}
 use Rattle.plan.specs.Code as read
 use Rattle.plan.specs.Packed as packed
 use Rattle.scp.specs.Answer as scp
-use Rattle.outcome_numbers.specs.Numbers.{END, UNKNOWN, RUN, START, RESPONSE, SILENT, READ, PACKED, loadNumbers, replyNumbers, readNumbers, packNumbers}
+use Rattle.flood_fill.specs.Answer as flood
+use Rattle.outcome_numbers.specs.Numbers.{END, UNKNOWN, RUN, START, RESPONSE, SILENT, READ, PACKED, ACCEPTED, IGNORED, MISSING, DONE, loadNumbers, replyNumbers, readNumbers, packNumbers, messageNumbers}
 
 -- ---- the numbers by name
 module _ (l : List ℕ) where
@@ -107,3 +108,22 @@ packed-back k (packed.sized n) = refl
 -- whatever length the image of each plan has
 pub packed-injective : (k m : ℕ) (x y : packed.Outcome) → packNumbers k x ≡ packNumbers m y → x ≡ y
 packed-injective k m x y e = sym (packed-back k x) ∙ ap packed-of e ∙ packed-back m y
+
+-- ---- flood-fill messages
+abbrev message-of : List ℕ → flood.Answer
+message-of l =
+    if eqb (event l) ACCEPTED then flood.accepted
+    else if eqb (event l) IGNORED then flood.ignored
+    else if eqb (event l) MISSING then flood.missing (items l) (place l)
+    else if eqb (event l) DONE then flood.done
+    else flood.refused (refusal l) (place l)
+
+message-back : (x : flood.Answer) → message-of (messageNumbers x) ≡ x
+message-back (flood.refused n p) = refl
+message-back flood.accepted = refl
+message-back flood.ignored = refl
+message-back (flood.missing n l) = refl
+message-back flood.done = refl
+
+pub message-injective : (x y : flood.Answer) → messageNumbers x ≡ messageNumbers y → x ≡ y
+message-injective x y e = sym (message-back x) ∙ ap message-of e ∙ message-back y

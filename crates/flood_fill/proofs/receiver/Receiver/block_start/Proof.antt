@@ -3,7 +3,7 @@ use mathlib.Core.Path.{sym, _∙_}
 use native.Mathlib.Omega.{arith}
 use borrow.Author.Needs.{needs}
 use Rattle.flood_fill.specs.Refusals.Laws.{block-fits}
-use Rattle.flood_fill.specs.Receive.Laws.{block-started}
+use Rattle.flood_fill.proofs.Ends.{block-started}
 use Rattle.flood_fill.proofs.receiver.Receiver.block_start.Statement.{statement}
 use Rattle.flood_fill.proofs.receiver.Receiver.block_start.Tie as tie
 
