@@ -35,6 +35,52 @@ static void library_pack_aplx(void) { reidhintsje_pack_aplx(plan, plan_length, o
 static void plain_pack_aplx_(void) { plain_pack_aplx(plan, plan_length, out2, 5 * MIB, outcome2); }
 static void library_scp(void) { reidhintsje_scp_answer(map, 132, ours, SIZE, identity, packet, packet_length, reply1, 272, outcome1); }
 static void plain_scp(void) { plain_scp_answer(map, 132, theirs, SIZE, packet, packet_length, reply2, 272, outcome2); }
+
+/* flood fill: a whole image of 32 blocks of 256 words, message by message; a Block Start and the data of its block; one word, which has not
+ * come yet. The image is the first 32 KiB of the memory */
+static uint8_t receiver[REIDHINTSJE_RECEIVER_BYTES];
+static struct plain_receiver plain_receiver;
+static uint32_t image_word(uint32_t block, uint32_t word_id) { return 2654435761u * (256 * block + word_id); }
+static void library_flood_block(uint32_t block)
+{
+    reidhintsje_flood_fill_block_start(receiver, ours, 32 * KIB, block, 256, outcome1);
+    for (uint32_t w = 0; w < 256; w++)
+        reidhintsje_flood_fill_block_data(receiver, ours, 32 * KIB, block, w, image_word(block, w), outcome1);
+}
+static void plain_flood_block(uint32_t block)
+{
+    plain_flood_fill_block_start(&plain_receiver, theirs, 32 * KIB, block, 256, outcome2);
+    for (uint32_t w = 0; w < 256; w++)
+        plain_flood_fill_block_data(&plain_receiver, theirs, 32 * KIB, block, w, image_word(block, w), outcome2);
+}
+static void library_flood(void)
+{
+    reidhintsje_flood_fill_start(receiver, ours, 32 * KIB, 31, 256, outcome1);
+    for (uint32_t b = 0; b < 32; b++) {
+        library_flood_block(b);
+        reidhintsje_flood_fill_block_end(receiver, ours, 32 * KIB, b, outcome1);
+    }
+}
+static void plain_flood(void)
+{
+    plain_flood_fill_start(&plain_receiver, theirs, 32 * KIB, 31, 256, outcome2);
+    for (uint32_t b = 0; b < 32; b++) {
+        plain_flood_block(b);
+        plain_flood_fill_block_end(&plain_receiver, theirs, 32 * KIB, b, outcome2);
+    }
+}
+static void library_flood_data(void)
+{
+    receiver[264 + 7] = 0;
+    reidhintsje_flood_fill_block_data(receiver, ours, 32 * KIB, 0, 7, 0x01020304, outcome1);
+}
+static void plain_flood_data(void)
+{
+    plain_receiver.marks[7] = false;
+    plain_flood_fill_block_data(&plain_receiver, theirs, 32 * KIB, 0, 7, 0x01020304, outcome2);
+}
+static void library_flood_one(void) { library_flood_block(0); }
+static void plain_flood_one(void) { plain_flood_block(0); }
 static void limit_copy(void) { memcpy(theirs + 17 * MIB, theirs + MIB, limit_length); }
 static void limit_fill(void) { memset(theirs + 17 * MIB, 5, limit_length); }
 
@@ -74,7 +120,7 @@ static void row(const char *name, void (*library)(void), void (*plain)(void), vo
         b = least(plain, b);
         if (limit) c = least(limit, c);
     }
-    printf("%-44s %10.2f us   %5.2f of plain C", name, a * 1e6, a / b);
+    printf("%-44s %11.3f us   %5.2f of plain C", name, a * 1e6, a / b);
     if (limit) printf("   %5.2f of %s", a / c, limit_name);
     printf("\n");
 }
@@ -209,5 +255,10 @@ int main(void)
     row("the same, regions in another order", library_scp, plain_scp, 0, 0);
     make_packet(2, 0x20000000, 256);
     row("SCP READ of 256 bytes, in another order", library_scp, plain_scp, 0, 0);
+    row("flood fill of 32 KiB, 8257 messages", library_flood, plain_flood, 0, 0);
+    reidhintsje_flood_fill_start(receiver, ours, 32 * KIB, 31, 256, outcome1);
+    plain_flood_fill_start(&plain_receiver, theirs, 32 * KIB, 31, 256, outcome2);
+    row("flood fill, a Block Start and its 256 words", library_flood_one, plain_flood_one, 0, 0);
+    row("flood fill, one word", library_flood_data, plain_flood_data, 0, 0);
     return failed;
 }

@@ -1,6 +1,7 @@
-/* The same calls in plain C, under the same rules (paper 01), for comparison. */
+/* The same calls in plain C, under the same rules (papers 01 and 02), for comparison. */
 #ifndef PLAIN_H
 #define PLAIN_H
+#include <stdbool.h>
 #include <stddef.h>
 #include <stdint.h>
 
@@ -13,4 +14,18 @@ uint32_t plain_scp_answer(const uint8_t *map, size_t map_length, uint8_t *memory
                           size_t packet_length, uint8_t *output, size_t output_length, uint64_t *outcome);
 uint32_t plain_pack_srom(const uint8_t *plan, size_t plan_length, uint8_t *output, size_t output_length, uint64_t *outcome);
 uint32_t plain_pack_aplx(const uint8_t *plan, size_t plan_length, uint8_t *output, size_t output_length, uint64_t *outcome);
+
+/* the flood-fill receiver; all zeros is an empty one */
+struct plain_receiver {
+    uint32_t count, size, block, open_size;
+    bool open, done[256], marks[256];
+    uint32_t words[256];
+};
+uint32_t plain_flood_fill_start(struct plain_receiver *r, const uint8_t *image, size_t image_length, uint32_t last_block,
+                                uint32_t block_size, uint64_t *outcome);
+uint32_t plain_flood_fill_block_start(struct plain_receiver *r, const uint8_t *image, size_t image_length, uint32_t block, uint32_t size,
+                                      uint64_t *outcome);
+uint32_t plain_flood_fill_block_data(struct plain_receiver *r, const uint8_t *image, size_t image_length, uint32_t block,
+                                     uint32_t word_id, uint32_t word, uint64_t *outcome);
+uint32_t plain_flood_fill_block_end(struct plain_receiver *r, uint8_t *image, size_t image_length, uint32_t block, uint64_t *outcome);
 #endif

@@ -6,12 +6,12 @@
  * Every call is proved to stay inside the buffers that it is lent, to end, and to answer for any bytes and any numbers. The proof takes
  * for granted what a C caller must see to:
  *   - a buffer is a pointer and the length in bytes that it really has; the pointer is never NULL, not even where the length is 0;
- *   - `outcome` points to eight numbers, aligned as uint64_t is; `identity` to five, aligned as uint32_t is;
+ *   - `outcome` points to eight numbers, aligned as uint64_t is; `identity` to five, aligned as uint32_t is; `receiver` to 1544 bytes;
  *   - a buffer that a call may write (no const) overlaps no other buffer of that call.
  * Nothing is allocated, and nothing is kept between calls, so that calls on different buffers may run at the same time.
  *
- * Each call returns 0, or the number of the refusal (docs/REFUSALS.md says what to look at). A refused call leaves map, memory and output
- * as they were. Addresses and words are 32 bits, Little Endian where they stand in bytes.
+ * Each call returns 0, or the number of the refusal (docs/REFUSALS.md says what to look at). A refused call leaves map, memory,
+ * output, receiver and image as they were. Addresses and words are 32 bits, Little Endian where they stand in bytes.
  */
 #ifndef REIDHINTSJE_H
 #define REIDHINTSJE_H
@@ -37,6 +37,12 @@ extern "C" {
 #define REIDHINTSJE_PLAN_MALFORMED 11u
 #define REIDHINTSJE_LENGTH_NOT_EXPRESSIBLE 12u
 #define REIDHINTSJE_SROM_TOO_LONG 13u
+#define REIDHINTSJE_IMAGE_TOO_SHORT 24u
+#define REIDHINTSJE_OUTSIDE_LIMITS 25u
+#define REIDHINTSJE_NO_START 26u
+#define REIDHINTSJE_NO_SUCH_BLOCK 27u
+#define REIDHINTSJE_WRONG_SIZE 28u
+#define REIDHINTSJE_NOT_OPEN 29u
 
 /* ---- outcomes
  * Every call that takes `outcome` writes all eight of its numbers; those that a case does not name are 0. One layout for all calls:
@@ -44,12 +50,12 @@ extern "C" {
 #define REIDHINTSJE_OUTCOME_NUMBERS 8
 #define REIDHINTSJE_REFUSAL 0 /* the number of the refusal, which the call returns too; 0 if there is none */
 #define REIDHINTSJE_PLACE 1   /* of a refusal, an end or an unknown command: an APLX entry's index, a serial ROM's offset, a piece's index;
-                                 of refusal 10 of a plan, the count of its pieces */
+                                 of refusal 10 of a plan, the count of its pieces; of MISSING, the lowest missing word ID */
 #define REIDHINTSJE_EVENT 2   /* what happened: one of the numbers below */
 #define REIDHINTSJE_KIND 3    /* of a run: 1 ARM, 2 Thumb; else 0 */
 #define REIDHINTSJE_ADDRESS 4 /* of a run, as written (bit 0 is set for Thumb); of UNKNOWN, the command word */
 #define REIDHINTSJE_RESUME 5  /* after a load that stopped at a run: the offset, or the header address, from which the next load goes on */
-#define REIDHINTSJE_ITEMS 6   /* entries or blocks taken before the stop; pieces of a plan that was read */
+#define REIDHINTSJE_ITEMS 6   /* entries or blocks taken before the stop; pieces of a plan that was read; of MISSING, how many words */
 #define REIDHINTSJE_BYTES 7   /* of a load: stored, each counted every time it was stored; of the response; of the image; of refusal 10: the
                                  length that the output has to have */
 
@@ -62,6 +68,10 @@ extern "C" {
 #define REIDHINTSJE_SILENT 6   /* a packet gets no response, and nothing was done */
 #define REIDHINTSJE_READ 7     /* a plan was read */
 #define REIDHINTSJE_PACKED 8   /* a plan was packed; the image stands at the output's front */
+#define REIDHINTSJE_ACCEPTED 9 /* a flood-fill message was done: it began an image, opened a block, or its word was kept */
+#define REIDHINTSJE_IGNORED 10 /* a flood-fill message changed nothing, and that is no error */
+#define REIDHINTSJE_MISSING 11 /* a Block End whose block lacks words: ITEMS says how many, PLACE the lowest; the block stays open */
+#define REIDHINTSJE_DONE 12    /* a Block End whose block is complete: its words stand in the image */
 
 #define REIDHINTSJE_NO_KIND 0
 #define REIDHINTSJE_ARM 1
@@ -127,6 +137,50 @@ uint32_t reidhintsje_plan_read(const uint8_t *plan, size_t plan_length, uint32_t
  * BYTES. Refusals: those of reading, and 10 where the image does not fit; BYTES is then the length that it has. */
 uint32_t reidhintsje_pack_srom(const uint8_t *plan, size_t plan_length, uint8_t *output, size_t output_length, uint64_t *outcome);
 uint32_t reidhintsje_pack_aplx(const uint8_t *plan, size_t plan_length, uint8_t *output, size_t output_length, uint64_t *outcome);
+
+/* ---- flood fill: ACCEPTED, IGNORED, MISSING or DONE
+ * An image is passed along in blocks of words, by four messages, each a call. Messages come taken apart; those with a bad checksum are
+ * already dropped. They may be lost, come twice and in any order: send all blocks that are not done again, each as a Block Start, all its
+ * words and a Block End, until every block is done; the image is then whole.
+ * The caller keeps two buffers from message to message, and nobody else writes them: the receiver, and the image that is received.
+ *
+ * A receiver is 1544 bytes; all zeros is the empty one, which no Start has reached.
+ *      0   2 bytes     the number of blocks that the last Start declared; 0 before any
+ *      2   2 bytes     the full size of a block, in words
+ *      4   2 bytes     the ID of the open block
+ *      6   2 bytes     its own size, in words; 0 if no block is open
+ *      8   256 bytes   for each block: done, unless 0
+ *    264   256 bytes   for each word of the open block: it came, unless 0
+ *    520   1024 bytes  the words of the open block, 4 bytes each, Little Endian as all numbers are
+ * Any 1544 bytes are read as a receiver. In those that no calls from an empty one left, a block from ID 256 on counts as done and a word
+ * from ID 256 on as come; a Block End looks at the first 256 words at most, and leaves the image as it was where they do not fit.
+ * What a call changes: a Start writes all 1544 bytes anew, zeros but for its two numbers. A Block Start that opens a block writes the bytes
+ * from 4 to 7 and makes the 256 bytes of the words zero. A word that is kept is written, and its byte becomes 1. A Block End that
+ * completes a block makes the bytes from 4 to 7 zero and the block's own byte 1. All else changes no byte.
+ *
+ * Every call is refused with 24 where the image has fewer than four bytes for each declared word: those of the Start itself, and for the
+ * other messages those of the last Start. Before any Start none is too short. Place 0.
+ */
+#define REIDHINTSJE_RECEIVER_BYTES 1544
+
+/* Start: `last_block` is the number of blocks less 1, `block_size` the words of each block; only the last may be shorter. 1 to 256 blocks
+ * of 1 to 256 words, 8192 words in all, else 25. Begins afresh: no block is done. The image is not written. Refusals: 24, 25. */
+uint32_t reidhintsje_flood_fill_start(uint8_t *receiver, const uint8_t *image, size_t image_length, uint32_t last_block,
+                                      uint32_t block_size, uint64_t *outcome);
+
+/* Block Start: opens a block, with no word come; a block that was open is dropped. IGNORED where the block is done: what is open stays
+ * open. `size` is the block's own size. Refusals: 24; 26 before any Start; 27 where there is no such block; 28 where the size is 0, or
+ * not the full one and, of the last block, not less. */
+uint32_t reidhintsje_flood_fill_block_start(uint8_t *receiver, const uint8_t *image, size_t image_length, uint32_t block, uint32_t size,
+                                            uint64_t *outcome);
+
+/* Block Data: a word is kept if its block is open, its ID below the block's size, and it has not come; else it is IGNORED. Refusal: 24. */
+uint32_t reidhintsje_flood_fill_block_data(uint8_t *receiver, const uint8_t *image, size_t image_length, uint32_t block,
+                                           uint32_t word_id, uint32_t word, uint64_t *outcome);
+
+/* Block End: MISSING, and the block stays open; or DONE: the block's words go into the image, Little Endian, from byte 4 x block x full
+ * size on. Refusals: 24; 29 where the block is not open. */
+uint32_t reidhintsje_flood_fill_block_end(uint8_t *receiver, uint8_t *image, size_t image_length, uint32_t block, uint64_t *outcome);
 
 #ifdef __cplusplus
 }

@@ -1,5 +1,5 @@
--- What each call of the library gives: the definitions of the loaders, the answerer, the reader and the packers, with the map of a table
--- and with numbers for what is no number.
+-- What each call of the library gives: the definitions of the loaders, the answerer, the reader, the packers and the flood-fill receiver,
+-- with the map of a table and with numbers for what is no number.
 pub mod Laws
 use mathlib.Core.Bool.{Bool, true, false}
 use mathlib.Core.List.{List}
@@ -20,7 +20,9 @@ use Rattle.plan.specs.Packed.{Packed, outputAfter}
 use Rattle.srom_pack.specs.Image.{sromImage, packSrom}
 use Rattle.aplx_pack.specs.Image.{aplxImage, packAplx}
 use Rattle.map_table.specs.Table.{mapOf}
-use Rattle.outcome_numbers.specs.Numbers.{loadNumbers, replyNumbers, readNumbers, packNumbers}
+use Rattle.flood_fill.specs.declared.message.Message.{Message}
+use Rattle.receiver_bytes.specs.Receiver.{Left, receiveBytes}
+use Rattle.outcome_numbers.specs.Numbers.{loadNumbers, replyNumbers, readNumbers, packNumbers, messageNumbers}
 
 -- ---- the map
 -- an addition: 0 where it is taken, else the refusal's number
@@ -101,3 +103,15 @@ sromPackCall plan output = packing sromImage (readPlan 4 plan) (packSrom plan (l
 
 abbrev pub aplxPackCall : List ℕ → List ℕ → Packing
 aplxPackCall plan output = packing aplxImage (readPlan 32 plan) (packAplx plan (length output)) output
+
+-- ---- flood fill: the numbers of the outcome, and the receiver and the image afterwards
+pub record Receiving : Type 0 where
+  pub numbers : List ℕ
+  pub receiver : List ℕ
+  pub image : List ℕ
+
+abbrev pub receiving : Left → Receiving
+receiving x = record { numbers = messageNumbers (x .answer); receiver = x .bytes; image = x .image }
+
+abbrev pub messageCall : List ℕ → List ℕ → Message → Receiving
+messageCall receiver image m = receiving (receiveBytes receiver image m)

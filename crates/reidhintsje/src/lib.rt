@@ -3,3 +3,4 @@ pub mod table; // the calls of a map
 pub mod load; // the two loaders
 pub mod plans; // the reader and the packers
 pub mod packet; // the answerer
+pub mod message; // the messages of a flood fill

@@ -11,7 +11,8 @@ use Rattle.plan.specs.Plan.{Piece, Read, refused, pieces}
 use Rattle.plan.specs.Code.{refuses, outcomeOf}
 use Rattle.plan.specs.Packed.{Outcome}
 use Rattle.outcome_numbers.specs.declared.numbers.Parts.{Parts}
-use Rattle.outcome_numbers.specs.Numbers.{numbers, first, loadParts, replyParts, packedParts, packNumbers}
+use Rattle.flood_fill.specs.Answer.{Answer}
+use Rattle.outcome_numbers.specs.Numbers.{numbers, first, loadParts, replyParts, packedParts, packNumbers, messageParts, messageNumbers}
 use Rattle.outcome_numbers.specs.Numbers.Laws.{tooSmall, other-parts}
 use Rattle.reidhintsje.specs.Calls.{loading, answering, imageLength}
 
@@ -41,6 +42,10 @@ module _ {n : ℕ} {l : List ℕ} {x : Parts} (f : (n ≡ x .refusal) × (l ≡ 
   reply-call e p =
       let g = put-call (p ∙ ap (λ (y : Answered). replyParts (y .reply)) e) in
       (g .0, (g .1, (ap (λ (y : Answered). y .memory) e, ap (λ (y : Answered). y .output) e)))
+
+  -- of a flood-fill message
+  pub message-call : {a b : Answer} → x ≡ messageParts a → a ≡ b → (n ≡ first l) × (l ≡ messageNumbers b)
+  message-call p e = put-call (p ∙ ap messageParts e)
 
 -- a refused plan has no image
 pub imageless : (image : List Piece → List ℕ) (r : Read) {n i : ℕ} → outcomeOf r ≡ refuses n i → 0 ≡ imageLength image r
