@@ -1,4 +1,4 @@
-"""An independent second program: the rules of paper 01 in Python, written from the paper and not from the specs.
+"""An independent second program: the rules of paper 01 and of flood fill in Python, written from the papers and not from the specs.
 
 It makes the expected output of the program replay (see replay.py). Nothing of the product depends on it.
 
@@ -7,6 +7,7 @@ An answer is a tuple: a word and its values.
   a load: ('end', place, taken, stored), ('unknown', command, place, taken, stored), ('run', kind, address, resume, taken, stored)
   a packet: ('silent',), ('response', size), ('run asked', kind, address), ('run loaded', kind, address, resume)
   a plan that was read: ('pieces', count); one that was packed: ('size', bytes)
+  a flood-fill message: ('accepted',), ('ignored',), ('missing', number of words, the lowest), ('done',)
 """
 
 
@@ -360,3 +361,87 @@ def plan_to_aplx(plan):
 
 def plan_to_srom(plan):
     return converted(pack_srom, plan)
+
+
+# ---- Flood fill
+
+class Receiver:
+    """An image that comes in blocks of words. A mark is any number but 0; there are marks and words for 256 blocks and words."""
+
+    def __init__(self, blocks=0, full_size=0):
+        self.blocks, self.full_size = blocks, full_size  # as the last Start declared them; no blocks before any
+        self.block, self.size = 0, 0                     # the open block and its own size, which is 0 where none is open
+        self.done = [0] * 256                            # the marks of the blocks
+        self.come, self.words = [0] * 256, [0] * 256     # the marks of the open block's words, and the words
+
+
+def marked(marks, index):
+    return index >= len(marks) or marks[index] != 0
+
+
+def answered(message):
+    """The message with its refusal as an answer. One that is refused has changed nothing."""
+    def answer(*arguments):
+        try:
+            return message(*arguments)
+        except Refused as r:
+            return r.answer
+    return answer
+
+
+def test_image(image, blocks, size):
+    if len(image) < 4 * blocks * size:
+        raise Refused(24)
+
+
+@answered
+def flood_fill_start(receiver, image, last_block, block_size):
+    blocks = last_block + 1
+    test_image(image, blocks, block_size)
+    if blocks > 256 or not 1 <= block_size <= 256 or blocks * block_size > 8192:
+        raise Refused(25)
+    receiver.__init__(blocks, block_size)
+    return ('accepted',)
+
+
+@answered
+def flood_fill_block_start(receiver, image, block, size):
+    test_image(image, receiver.blocks, receiver.full_size)
+    if receiver.blocks == 0:
+        raise Refused(26)
+    if block >= receiver.blocks:
+        raise Refused(27)
+    shorter = block == receiver.blocks - 1 and size < receiver.full_size
+    if size == 0 or size != receiver.full_size and not shorter:
+        raise Refused(28)
+    if marked(receiver.done, block):
+        return ('ignored',)
+    receiver.block, receiver.size, receiver.come = block, size, [0] * 256
+    return ('accepted',)
+
+
+@answered
+def flood_fill_block_data(receiver, image, block, word_id, word):
+    test_image(image, receiver.blocks, receiver.full_size)
+    if block != receiver.block or word_id >= receiver.size or marked(receiver.come, word_id):
+        return ('ignored',)
+    receiver.words[word_id], receiver.come[word_id] = word, 1
+    return ('accepted',)
+
+
+@answered
+def flood_fill_block_end(receiver, image, block):
+    test_image(image, receiver.blocks, receiver.full_size)
+    if receiver.size == 0 or block != receiver.block:
+        raise Refused(29)
+    missing = [k for k in range(receiver.size) if not marked(receiver.come, k)]
+    if missing:
+        return 'missing', len(missing), missing[0]
+    data = b''.join(word.to_bytes(4, 'little') for word in receiver.words[:receiver.size])
+    at = 4 * block * receiver.full_size
+    if at + len(data) <= len(image):
+        image[at:at + len(data)] = data
+    receiver.block, receiver.size = 0, 0
+    if block < len(receiver.done):
+        receiver.done[block] = 1
+    return ('done',)

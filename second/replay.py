@@ -5,9 +5,11 @@ replay.py write: stores it as crates/replay/stdout.
 replay.py: fails where the stored file is another.
 
 The head of crates/replay/data/cases says how a call is written and what is written for it. `=` is the buffer of the same
-kind (table, memory, output, input) as the last call of the file left it.
+kind (table, memory, output, input) as the last call of the file left it. A flood-fill receiver is of the kind table, its image
+of the kind memory.
 """
 import re
+import struct
 import sys
 import pathlib
 
@@ -29,6 +31,24 @@ CALLS = {
     'map_sound': ('table', LONG),
     'lookup': ('table', 4, WORD, LONG),
     'run_entry': ('table', WORD),
+    'flood_fill_start': ('table', 'memory', WORD, WORD),
+    'flood_fill_block_start': ('table', 'memory', WORD, WORD),
+    'flood_fill_block_data': ('table', 'memory', WORD, WORD, WORD),
+    'flood_fill_block_end': ('table', 'memory', WORD),
+}
+
+# The buffers that a call may change.
+CHANGED = {
+    'map_add': ('table',),
+    'srom_load': ('memory',),
+    'aplx_load': ('memory',),
+    'scp_answer': ('memory', 'output'),
+    'pack_srom': ('output',),
+    'pack_aplx': ('output',),
+    'flood_fill_start': ('table',),
+    'flood_fill_block_start': ('table',),
+    'flood_fill_block_data': ('table',),
+    'flood_fill_block_end': ('table', 'memory'),
 }
 
 
@@ -69,6 +89,27 @@ def map_add(table, base, length, place, rights):
     return [0]
 
 
+# ---- a flood-fill receiver as bytes
+
+# blocks, full size, open block, its size; a byte for each block, a byte for each word, the words
+RECEIVER = struct.Struct('<4H256s256s256I')
+
+
+def receiver_of(table):
+    if len(table) != RECEIVER.size:
+        raise NoCall
+    blocks, full_size, block, size, done, come, *words = RECEIVER.unpack(table)
+    receiver = model.Receiver(blocks, full_size)
+    receiver.block, receiver.size = block, size
+    receiver.done, receiver.come, receiver.words = list(done), list(come), words
+    return receiver
+
+
+def bytes_of(receiver):
+    return RECEIVER.pack(receiver.blocks, receiver.full_size, receiver.block, receiver.size,
+                         bytes(receiver.done), bytes(receiver.come), *receiver.words)
+
+
 # ---- answers as numbers
 
 KIND = {'ARM': 1, 'Thumb': 2}
@@ -88,6 +129,10 @@ def numbers(answer):
         'silent': lambda: dict(event=6),
         'pieces': lambda count: dict(event=7, items=count),
         'size': lambda size: dict(event=8, bytes=size),
+        'accepted': lambda: dict(event=9),
+        'ignored': lambda: dict(event=10),
+        'missing': lambda count, lowest: dict(place=lowest, event=11, items=count),
+        'done': lambda: dict(event=12),
     }[answer[0]](*answer[1:])
     eight = [outcome.get(name, 0) for name in ('refusal', 'place', 'event', 'kind', 'address', 'resume', 'items', 'bytes')]
     return [eight[0]] + eight
@@ -136,6 +181,30 @@ def run_entry(table, address):
     return [9, 0, 0] if kind is None else [0, KIND[kind], address]
 
 
+def flood_fill(message, table, *arguments):
+    """The answer of a flood-fill message; the receiver's bytes become what it leaves."""
+    receiver = receiver_of(table)
+    answer = numbers(message(receiver, *arguments))
+    table[:] = bytes_of(receiver)
+    return answer
+
+
+def flood_fill_start(table, image, last_block, block_size):
+    return flood_fill(model.flood_fill_start, table, image, last_block, block_size)
+
+
+def flood_fill_block_start(table, image, block, size):
+    return flood_fill(model.flood_fill_block_start, table, image, block, size)
+
+
+def flood_fill_block_data(table, image, block, word_id, word):
+    return flood_fill(model.flood_fill_block_data, table, image, block, word_id, word)
+
+
+def flood_fill_block_end(table, image, block):
+    return flood_fill(model.flood_fill_block_end, table, image, block)
+
+
 # ---- the text
 
 def number(text, most):
@@ -172,9 +241,7 @@ def call(line, kept):
             kept[kind] = byte_string(word, kept.get(kind, b''))
             arguments.append(kept[kind])
     answer = globals()[name](*arguments)
-    changed = {'map_add': ['table'], 'srom_load': ['memory'], 'aplx_load': ['memory'], 'scp_answer': ['memory', 'output'],
-               'pack_srom': ['output'], 'pack_aplx': ['output']}.get(name, [])
-    return [name, ' '.join(map(str, answer))] + [kept[kind].hex() for kind in changed]
+    return [name, ' '.join(map(str, answer))] + [kept[kind].hex() for kind in CHANGED.get(name, ())]
 
 
 def replay(text):

@@ -5,6 +5,9 @@ use crate::argument::number;
 use crate::scan::NONE;
 use crate::scan::behind_word;
 
+// The bytes of a flood-fill receiver.
+const RECEIVER_BYTES: usize = 1544;
+
 // The number of the call that changes a map or a memory, or 0.
 fn load_of(line: &[u8]) -> u32 {
     if behind_word(line, b"map_add ") != NONE {
@@ -50,6 +53,23 @@ fn question_of(line: &[u8]) -> u32 {
     0
 }
 
+// The number of the flood-fill message, or 0.
+fn message_of(line: &[u8]) -> u32 {
+    if behind_word(line, b"flood_fill_start ") != NONE {
+        return 11;
+    }
+    if behind_word(line, b"flood_fill_block_start ") != NONE {
+        return 12;
+    }
+    if behind_word(line, b"flood_fill_block_data ") != NONE {
+        return 13;
+    }
+    if behind_word(line, b"flood_fill_block_end ") != NONE {
+        return 14;
+    }
+    0
+}
+
 // The number of the call that a line names, or 0.
 pub(crate) fn call_of(line: &[u8]) -> u32 {
     let load = load_of(line);
@@ -60,7 +80,11 @@ pub(crate) fn call_of(line: &[u8]) -> u32 {
     if plan != 0 {
         return plan;
     }
-    question_of(line)
+    let question = question_of(line);
+    if question != 0 {
+        return question;
+    }
+    message_of(line)
 }
 
 // The kind at an index, or 0 behind the last one.
@@ -68,8 +92,8 @@ fn kind(kinds: &[u8], index: usize) -> u8 {
     if index < kinds.len() { kinds[index] } else { 0 }
 }
 
-// The kind of a call's argument: t a table, m a memory, i an input (a rom, a packet or a plan), o an output, 4 and 8 a number of so many bytes,
-// r a right; 0 behind the last one, and n where there is no such call.
+// The kind of a call's argument: t a table, f a flood-fill receiver, m a memory or an image, i an input (a rom, a packet or a plan), o an output,
+// 4 and 8 a number of so many bytes, r a right; 0 behind the last one, and n where there is no such call.
 fn kind_of(call: u32, index: usize) -> u8 {
     match call {
         1 => kind(b"t4444", index),
@@ -82,6 +106,10 @@ fn kind_of(call: u32, index: usize) -> u8 {
         8 => kind(b"t8", index),
         9 => kind(b"tr48", index),
         10 => kind(b"t4", index),
+        11 => kind(b"fm44", index),
+        12 => kind(b"fm44", index),
+        13 => kind(b"fm444", index),
+        14 => kind(b"fm4", index),
         _ => b'n',
     }
 }
@@ -104,6 +132,15 @@ fn right(line: &[u8], at: usize, numbers: &mut [usize; 9]) -> usize {
     }
 }
 
+// A flood-fill receiver: a table of its length.
+fn receiver(line: &[u8], at: usize, table: &mut [u8], kept: &mut [usize; 4]) -> usize {
+    let next = bytes(line, at, table, kept, 0);
+    if kept[0] != RECEIVER_BYTES {
+        return NONE;
+    }
+    next
+}
+
 // One argument; answers the place behind it, or NONE. Where the call has fewer, nothing is read.
 fn argument(
     line: &[u8],
@@ -123,6 +160,7 @@ fn argument(
         b'n' => NONE,
         b'r' => right(line, at, numbers),
         b't' => bytes(line, at, table, kept, 0),
+        b'f' => receiver(line, at, table, kept),
         b'm' => bytes(line, at, memory, kept, 1),
         b'o' => bytes(line, at, out, kept, 2),
         b'i' => bytes(line, at, input, kept, 3),

@@ -8,6 +8,7 @@ mod argument; // one argument of a call
 mod calls; // which call a line names, and its arguments
 mod library; // the calls of the library for C
 mod maps; // the questions that a map alone answers
+mod flood_fill; // the calls of the flood-fill receiver
 mod make; // makes a call
 mod lines; // one line after the other
 

@@ -1,5 +1,6 @@
 // Makes a call with the bytes and numbers that were read.
 ghost use Rattle.io.specs.Counts.{Counts};
+use crate::flood_fill;
 use crate::library;
 use crate::maps;
 
@@ -29,7 +30,11 @@ fn made(
         7 => library::pack_aplx(input, out),
         8 => library::map_sound(numbers, table),
         9 => maps::lookup(numbers, table),
-        _ => maps::run_entry(numbers, table),
+        10 => maps::run_entry(numbers, table),
+        11 => flood_fill::start(numbers, table, memory),
+        12 => flood_fill::block_start(numbers, table, memory),
+        13 => flood_fill::block_data(numbers, table, memory),
+        _ => flood_fill::block_end(numbers, table, memory),
     }
 }
 
