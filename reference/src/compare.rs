@@ -1,10 +1,9 @@
 //! One input given to a library and to this second implementation: every number and every byte must be the same.
 //! Each buffer that the library is lent lies between guard bytes that must stay as they were.
 
-use std::hint::black_box;
-
-use crate::bytes::hex;
+use crate::compare_flood::{compare_flood, describe_flood};
 use crate::generate::Case;
+use crate::guarded::{shown, Guarded, Numbers};
 use crate::interface::{load_numbers, load_of, map_of, packed_numbers, Library, Outcome, Reference};
 use crate::outcome::{Answer, Refusal};
 use crate::pack;
@@ -14,98 +13,6 @@ use crate::series::{self, Medium, Report, Step};
 use crate::tally::{
     identity_kind, load_kind, memory_kind, number_kind, reply_kind, rights_kind, table_kind, taken_kind, Tally,
 };
-
-const GUARD: usize = 64;
-
-/// The guard byte at an index.
-fn guard(index: usize) -> u8 {
-    (index as u8).wrapping_mul(37) ^ 0xa5
-}
-
-/// A lent buffer between guards.
-struct Guarded {
-    bytes: Vec<u8>,
-    start: usize,
-    length: usize,
-}
-
-impl Guarded {
-    /// The content begins at any alignment.
-    fn new(content: &[u8], random: &mut Random) -> Guarded {
-        let start = GUARD + random.below(16);
-        let mut bytes: Vec<u8> = (0..start).map(guard).collect();
-        bytes.extend(content);
-        let end = bytes.len();
-        bytes.extend((end..end + GUARD).map(guard));
-        Guarded { bytes, start, length: content.len() }
-    }
-
-    fn lent(&mut self) -> &mut [u8] {
-        &mut self.bytes[self.start..self.start + self.length]
-    }
-
-    fn read(&self) -> &[u8] {
-        &self.bytes[self.start..self.start + self.length]
-    }
-
-    /// An error where a guard was changed, or the content is not what it must be.
-    fn check(&self, name: &str, expected: &[u8]) -> Result<(), String> {
-        let bytes = black_box(&self.bytes);
-        let end = self.start + self.length;
-        let outside = (0..self.start).chain(end..end + GUARD);
-        for index in outside {
-            if bytes[index] != guard(index) {
-                let at = index as i64 - self.start as i64;
-                return Err(format!("a byte outside {name} was changed, at {at} of {}", self.length));
-            }
-        }
-        let content = &bytes[self.start..end];
-        if content == expected {
-            return Ok(());
-        }
-        let at = content.iter().zip(expected).position(|(got, want)| got != want).unwrap_or(0);
-        Err(format!(
-            "{name} differs at byte {at}: the library has {:02x}, the reference {:02x}\n\
-             library   {}\nreference {}",
-            content[at],
-            expected[at],
-            shown(content),
-            shown(expected)
-        ))
-    }
-}
-
-/// The lent outcome between guards. Before the call it holds what no call may leave there.
-struct Numbers {
-    all: [u64; 24],
-}
-
-const POISON: u64 = 0xdead_beef_0bad_cafe;
-
-impl Numbers {
-    fn new() -> Numbers {
-        Numbers { all: [POISON; 24] }
-    }
-
-    fn lent(&mut self) -> &mut Outcome {
-        (&mut self.all[8..16]).try_into().expect("eight numbers")
-    }
-
-    fn check(&self, number: u32, expected: &Outcome) -> Result<(), String> {
-        let all = black_box(&self.all);
-        if all[..8].iter().chain(&all[16..]).any(|n| *n != POISON) {
-            return Err("a number outside the outcome was changed".to_string());
-        }
-        if u64::from(number) != expected[0] || all[8..16] != expected[..] {
-            return Err(format!(
-                "the numbers differ\n  library   {number}: {:?}\n  reference {}: {expected:?}",
-                &all[8..16],
-                expected[0]
-            ));
-        }
-        Ok(())
-    }
-}
 
 /// Compares the library with the reference on one input. Answers how many calls were made, or the difference.
 pub fn compare(
@@ -228,6 +135,7 @@ pub fn compare(
         Case::Series { plan, table, memory, medium, steps } => {
             return compare_series(library, plan, table, memory, *medium, steps, random, tally);
         }
+        Case::FloodFill(flood) => return compare_flood(flood, library, random, tally),
     }
     Ok(1)
 }
@@ -328,16 +236,6 @@ fn report_kind(report: &Report) -> String {
     }
 }
 
-/// Bytes in hex; only the front of very many.
-fn shown(bytes: &[u8]) -> String {
-    const MOST: usize = 16_384;
-    if bytes.len() <= MOST {
-        hex(bytes)
-    } else {
-        format!("{} .. ({} bytes in all)", hex(&bytes[..MOST]), bytes.len())
-    }
-}
-
 /// An input as text, one argument a line, bytes in hex.
 pub fn describe(case: &Case) -> String {
     match case {
@@ -392,5 +290,6 @@ pub fn describe(case: &Case) -> String {
             }
             text
         }
+        Case::FloodFill(flood) => describe_flood(flood),
     }
 }

@@ -2,6 +2,7 @@
 //! where the differential test itself is tested.
 
 use reference::interface::{Library, Numbers, Outcome, Reference};
+use reference::receiver::ReceiverBytes;
 use std::slice::{from_raw_parts, from_raw_parts_mut};
 
 #[no_mangle]
@@ -99,6 +100,70 @@ pub unsafe extern "C" fn reidhintsje_pack_aplx(
     Reference.pack_aplx(
         from_raw_parts(plan, plan_length),
         from_raw_parts_mut(output, output_length),
+        &mut *outcome,
+    )
+}
+
+#[no_mangle]
+pub unsafe extern "C" fn reidhintsje_flood_fill_start(
+    receiver: *mut ReceiverBytes,
+    image: *const u8, image_length: usize,
+    last_block: u32, block_size: u32,
+    outcome: *mut Outcome,
+) -> u32 {
+    Reference.flood_fill_start(
+        &mut *receiver,
+        from_raw_parts(image, image_length),
+        last_block,
+        block_size,
+        &mut *outcome,
+    )
+}
+
+#[no_mangle]
+pub unsafe extern "C" fn reidhintsje_flood_fill_block_start(
+    receiver: *mut ReceiverBytes,
+    image: *const u8, image_length: usize,
+    block: u32, size: u32,
+    outcome: *mut Outcome,
+) -> u32 {
+    Reference.flood_fill_block_start(
+        &mut *receiver,
+        from_raw_parts(image, image_length),
+        block,
+        size,
+        &mut *outcome,
+    )
+}
+
+#[no_mangle]
+pub unsafe extern "C" fn reidhintsje_flood_fill_block_data(
+    receiver: *mut ReceiverBytes,
+    image: *const u8, image_length: usize,
+    block: u32, word_id: u32, word: u32,
+    outcome: *mut Outcome,
+) -> u32 {
+    Reference.flood_fill_block_data(
+        &mut *receiver,
+        from_raw_parts(image, image_length),
+        block,
+        word_id,
+        word,
+        &mut *outcome,
+    )
+}
+
+#[no_mangle]
+pub unsafe extern "C" fn reidhintsje_flood_fill_block_end(
+    receiver: *mut ReceiverBytes,
+    image: *mut u8, image_length: usize,
+    block: u32,
+    outcome: *mut Outcome,
+) -> u32 {
+    Reference.flood_fill_block_end(
+        &mut *receiver,
+        from_raw_parts_mut(image, image_length),
+        block,
         &mut *outcome,
     )
 }

@@ -1,12 +1,14 @@
-//! The library's interface for C and Rust, as include/reidhintsje.h says it: a map is a lent table of 132 bytes, an
-//! answer is a number and eight outcome numbers. `Library` is that interface; `Reference` gives it over this second implementation.
+//! The library's interface for C and Rust, as include/reidhintsje.h says it: a map is a lent table of 132 bytes, a
+//! receiver 1,544 lent bytes, an answer is a number and eight outcome numbers. `Library` is that interface; `Reference` gives it over this second implementation.
 
 use crate::aplx;
 use crate::bytes::{le32, put_le32};
+use crate::flood_fill::{self, Receiver, Taken, MARKS};
 use crate::map::{Map, Region, Rights, MOST_REGIONS};
 use crate::outcome::{Answer, Entry, Loaded, Refusal, Stop};
 use crate::pack;
 use crate::plan;
+use crate::receiver::{receiver_of, write_receiver, ReceiverBytes, DONE};
 use crate::scp::{self, Identity, Reply};
 use crate::srom;
 
@@ -44,6 +46,38 @@ pub trait Library {
     fn plan_read(&self, plan: &[u8], target: u32, outcome: &mut Outcome) -> u32;
     fn pack_srom(&self, plan: &[u8], output: &mut [u8], outcome: &mut Outcome) -> u32;
     fn pack_aplx(&self, plan: &[u8], output: &mut [u8], outcome: &mut Outcome) -> u32;
+    fn flood_fill_start(
+        &self,
+        receiver: &mut ReceiverBytes,
+        image: &[u8],
+        last_block: u32,
+        block_size: u32,
+        outcome: &mut Outcome,
+    ) -> u32;
+    fn flood_fill_block_start(
+        &self,
+        receiver: &mut ReceiverBytes,
+        image: &[u8],
+        block: u32,
+        size: u32,
+        outcome: &mut Outcome,
+    ) -> u32;
+    fn flood_fill_block_data(
+        &self,
+        receiver: &mut ReceiverBytes,
+        image: &[u8],
+        block: u32,
+        word_id: u32,
+        word: u32,
+        outcome: &mut Outcome,
+    ) -> u32;
+    fn flood_fill_block_end(
+        &self,
+        receiver: &mut ReceiverBytes,
+        image: &mut [u8],
+        block: u32,
+        outcome: &mut Outcome,
+    ) -> u32;
 }
 
 /// The map that a table holds. None: not 132 bytes, more regions than a map has, or a region in use with a rights
@@ -98,6 +132,10 @@ pub mod event {
     pub const SILENT: u64 = 6;
     pub const READ: u64 = 7;
     pub const PACKED: u64 = 8;
+    pub const ACCEPTED: u64 = 9;
+    pub const IGNORED: u64 = 10;
+    pub const MISSING: u64 = 11;
+    pub const DONE: u64 = 12;
 }
 
 /// Where each number stands in the outcome, by the header.
@@ -213,6 +251,36 @@ fn pack_numbers(size: Result<u64, Refusal>, needed: impl FnOnce() -> u64) -> Out
     }
 }
 
+/// The outcome numbers of a flood-fill message.
+pub fn flood_numbers(answer: flood_fill::Answer) -> Outcome {
+    match answer {
+        Err(refusal) => refusal_numbers(refusal),
+        Ok(Taken::Accepted) => outcome_of(event::ACCEPTED, &[]),
+        Ok(Taken::Ignored) => outcome_of(event::IGNORED, &[]),
+        Ok(Taken::Missing { count, lowest }) => {
+            outcome_of(event::MISSING, &[(at::PLACE, lowest), (at::ITEMS, count)])
+        }
+        Ok(Taken::Done) => outcome_of(event::DONE, &[]),
+    }
+}
+
+/// Gives a message to the receiver that the bytes are, and writes what it left over them. The byte of a completed block becomes 1,
+/// whatever it was.
+fn flood(
+    bytes: &mut ReceiverBytes,
+    outcome: &mut Outcome,
+    message: impl FnOnce(&mut Receiver) -> flood_fill::Answer,
+) -> u32 {
+    let mut receiver = receiver_of(bytes);
+    let open = usize::from(receiver.open);
+    let answer = message(&mut receiver);
+    write_receiver(bytes, &receiver);
+    if answer == Ok(Taken::Done) && open < MARKS {
+        bytes[DONE + open] = 1;
+    }
+    give(outcome, flood_numbers(answer))
+}
+
 /// Fills the lent outcome, and returns the refusal number.
 fn give(outcome: &mut Outcome, numbers: Outcome) -> u32 {
     *outcome = numbers;
@@ -315,5 +383,48 @@ impl Library for Reference {
     fn pack_aplx(&self, plan: &[u8], output: &mut [u8], outcome: &mut Outcome) -> u32 {
         let needed = || plan::read(plan, plan::APLX_UNIT).map_or(0, |pieces| pack::aplx_length(&pieces));
         give(outcome, pack_numbers(pack::pack_aplx(plan, output), needed))
+    }
+    fn flood_fill_start(
+        &self,
+        receiver: &mut ReceiverBytes,
+        image: &[u8],
+        last_block: u32,
+        block_size: u32,
+        outcome: &mut Outcome,
+    ) -> u32 {
+        flood(receiver, outcome, |receiver| receiver.start(image, last_block, block_size))
+    }
+
+    fn flood_fill_block_start(
+        &self,
+        receiver: &mut ReceiverBytes,
+        image: &[u8],
+        block: u32,
+        size: u32,
+        outcome: &mut Outcome,
+    ) -> u32 {
+        flood(receiver, outcome, |receiver| receiver.block_start(image, block, size))
+    }
+
+    fn flood_fill_block_data(
+        &self,
+        receiver: &mut ReceiverBytes,
+        image: &[u8],
+        block: u32,
+        word_id: u32,
+        word: u32,
+        outcome: &mut Outcome,
+    ) -> u32 {
+        flood(receiver, outcome, |receiver| receiver.block_data(image, block, word_id, word))
+    }
+
+    fn flood_fill_block_end(
+        &self,
+        receiver: &mut ReceiverBytes,
+        image: &mut [u8],
+        block: u32,
+        outcome: &mut Outcome,
+    ) -> u32 {
+        flood(receiver, outcome, |receiver| receiver.block_end(image, block))
     }
 }

@@ -4,13 +4,17 @@
 pub mod aplx;
 pub mod bytes;
 pub mod compare;
+pub mod compare_flood;
+pub mod flood_fill;
 pub mod generate;
+pub mod guarded;
 pub mod interface;
 pub mod map;
 pub mod outcome;
 pub mod pack;
 pub mod plan;
 pub mod random;
+pub mod receiver;
 pub mod scp;
 pub mod series;
 pub mod srom;

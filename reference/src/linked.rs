@@ -1,6 +1,7 @@
 //! The project's static library behind the interface. A slice is a pointer and a length.
 
 use reference::interface::{Library, Numbers, Outcome};
+use reference::receiver::ReceiverBytes;
 
 extern "C" {
     fn reidhintsje_map_add(
@@ -42,6 +43,30 @@ extern "C" {
     fn reidhintsje_pack_aplx(
         plan: *const u8, plan_length: usize,
         output: *mut u8, output_length: usize,
+        outcome: *mut u64,
+    ) -> u32;
+    fn reidhintsje_flood_fill_start(
+        receiver: *mut u8,
+        image: *const u8, image_length: usize,
+        last_block: u32, block_size: u32,
+        outcome: *mut u64,
+    ) -> u32;
+    fn reidhintsje_flood_fill_block_start(
+        receiver: *mut u8,
+        image: *const u8, image_length: usize,
+        block: u32, size: u32,
+        outcome: *mut u64,
+    ) -> u32;
+    fn reidhintsje_flood_fill_block_data(
+        receiver: *mut u8,
+        image: *const u8, image_length: usize,
+        block: u32, word_id: u32, word: u32,
+        outcome: *mut u64,
+    ) -> u32;
+    fn reidhintsje_flood_fill_block_end(
+        receiver: *mut u8,
+        image: *mut u8, image_length: usize,
+        block: u32,
         outcome: *mut u64,
     ) -> u32;
 }
@@ -127,6 +152,77 @@ impl Library for Linked {
             reidhintsje_pack_aplx(
                 plan.as_ptr(), plan.len(),
                 output.as_mut_ptr(), output.len(),
+                outcome.as_mut_ptr(),
+            )
+        }
+    }
+    fn flood_fill_start(
+        &self,
+        receiver: &mut ReceiverBytes,
+        image: &[u8],
+        last_block: u32,
+        block_size: u32,
+        outcome: &mut Outcome,
+    ) -> u32 {
+        unsafe {
+            reidhintsje_flood_fill_start(
+                receiver.as_mut_ptr(),
+                image.as_ptr(), image.len(),
+                last_block, block_size,
+                outcome.as_mut_ptr(),
+            )
+        }
+    }
+
+    fn flood_fill_block_start(
+        &self,
+        receiver: &mut ReceiverBytes,
+        image: &[u8],
+        block: u32,
+        size: u32,
+        outcome: &mut Outcome,
+    ) -> u32 {
+        unsafe {
+            reidhintsje_flood_fill_block_start(
+                receiver.as_mut_ptr(),
+                image.as_ptr(), image.len(),
+                block, size,
+                outcome.as_mut_ptr(),
+            )
+        }
+    }
+
+    fn flood_fill_block_data(
+        &self,
+        receiver: &mut ReceiverBytes,
+        image: &[u8],
+        block: u32,
+        word_id: u32,
+        word: u32,
+        outcome: &mut Outcome,
+    ) -> u32 {
+        unsafe {
+            reidhintsje_flood_fill_block_data(
+                receiver.as_mut_ptr(),
+                image.as_ptr(), image.len(),
+                block, word_id, word,
+                outcome.as_mut_ptr(),
+            )
+        }
+    }
+
+    fn flood_fill_block_end(
+        &self,
+        receiver: &mut ReceiverBytes,
+        image: &mut [u8],
+        block: u32,
+        outcome: &mut Outcome,
+    ) -> u32 {
+        unsafe {
+            reidhintsje_flood_fill_block_end(
+                receiver.as_mut_ptr(),
+                image.as_mut_ptr(), image.len(),
+                block,
                 outcome.as_mut_ptr(),
             )
         }

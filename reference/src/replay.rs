@@ -51,6 +51,28 @@ fn call<'a>(name: &str, n: &[u64], buffers: &'a mut Buffers) -> Option<(Vec<u64>
         "plan_read" => (Reference.plan_read(input, n[0] as u32, &mut outcome), vec![]),
         "pack_srom" => (Reference.pack_srom(input, output, &mut outcome), vec![output]),
         "pack_aplx" => (Reference.pack_aplx(input, output, &mut outcome), vec![output]),
+        "flood_fill_start" => {
+            let receiver = table.as_mut_slice().try_into().ok()?;
+            let number = Reference.flood_fill_start(receiver, memory, n[0] as u32, n[1] as u32, &mut outcome);
+            (number, vec![table])
+        }
+        "flood_fill_block_start" => {
+            let receiver = table.as_mut_slice().try_into().ok()?;
+            let number =
+                Reference.flood_fill_block_start(receiver, memory, n[0] as u32, n[1] as u32, &mut outcome);
+            (number, vec![table])
+        }
+        "flood_fill_block_data" => {
+            let receiver = table.as_mut_slice().try_into().ok()?;
+            let [block, word_id, word] = [0, 1, 2].map(|k| n[k] as u32);
+            let number = Reference.flood_fill_block_data(receiver, memory, block, word_id, word, &mut outcome);
+            (number, vec![table])
+        }
+        "flood_fill_block_end" => {
+            let receiver = table.as_mut_slice().try_into().ok()?;
+            let number = Reference.flood_fill_block_end(receiver, memory, n[0] as u32, &mut outcome);
+            (number, vec![table, memory])
+        }
         _ => return None,
     };
     let mut numbers = vec![u64::from(number)];

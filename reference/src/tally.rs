@@ -3,7 +3,9 @@
 use std::collections::BTreeMap;
 
 use crate::bytes::{le16, le32};
+use crate::flood_fill::{Message, Receiver};
 use crate::interface::{at, event, map_of, Numbers, Outcome, TABLE};
+use crate::receiver::ReceiverBytes;
 use crate::scp;
 
 #[derive(Default)]
@@ -27,7 +29,7 @@ impl Tally {
             rows.entry(key.clone()).or_insert(0);
         }
         rows.iter()
-            .map(|((call, what), count)| format!("{call:<12} {what:<28} {count:>10}\n"))
+            .map(|((call, what), count)| format!("{call:<22} {what:<28} {count:>10}\n"))
             .collect()
     }
 
@@ -142,6 +144,48 @@ pub fn table_kind(number: u32, table: &[u8]) -> &'static str {
     }
 }
 
+/// The call of a flood-fill message.
+pub fn call_of(message: Message) -> &'static str {
+    match message {
+        Message::Start { .. } => "flood_fill_start",
+        Message::BlockStart { .. } => "flood_fill_block_start",
+        Message::BlockData { .. } => "flood_fill_block_data",
+        Message::BlockEnd { .. } => "flood_fill_block_end",
+    }
+}
+
+/// What a flood-fill message came to.
+pub fn flood_kind(numbers: &Outcome) -> String {
+    match numbers[at::EVENT] {
+        event::REFUSED => refused(numbers[at::REFUSAL]),
+        event::ACCEPTED => "accepted".to_string(),
+        event::IGNORED => "ignored".to_string(),
+        event::MISSING => "missing".to_string(),
+        event::DONE => "done".to_string(),
+        other => format!("event {other}"),
+    }
+}
+
+/// The receiver from which a series begins.
+pub fn receiver_kind(bytes: &ReceiverBytes) -> String {
+    let empty = bytes.iter().all(|byte| *byte == 0);
+    if empty { "from the empty receiver" } else { "from any receiver" }.to_string()
+}
+
+/// What is special in a block that was completed: the receiver before its end, and the length of the image.
+pub fn block_kind(receiver: &Receiver, image: usize, numbers: &Outcome) -> Option<&'static str> {
+    let [open, full, size] = [receiver.open, receiver.full, receiver.size].map(usize::from);
+    match numbers[at::EVENT] {
+        event::DONE if 4 * open * full + 4 * size.min(256) > image => Some("done, does not fit"),
+        event::DONE if open > 255 => Some("done, block over 255"),
+        event::DONE if size > 256 => Some("done, over 256 words"),
+        event::DONE if size == 256 => Some("done, 256 words"),
+        event::DONE if open == 255 => Some("done, block 255"),
+        event::DONE if size < full => Some("done, a shorter block"),
+        _ => None,
+    }
+}
+
 /// What reading or packing a plan, or adding a region, came to.
 pub fn number_kind(number: u64) -> String {
     match number {
@@ -170,6 +214,10 @@ pub fn required() -> Vec<(&'static str, String)> {
     numbers("plan_read +", &[0, 2, 3, 5, 9, 11]);
     numbers("pack_srom", &[0, 2, 3, 5, 9, 10, 11, 12]);
     numbers("pack_aplx", &[0, 2, 3, 5, 9, 10, 11, 12]);
+    numbers("flood_fill_start", &[0, 24, 25]);
+    numbers("flood_fill_block_start", &[0, 24, 26, 27, 28]);
+    numbers("flood_fill_block_data", &[0, 24]);
+    numbers("flood_fill_block_end", &[24, 29]);
     numbers("series SROM", &[4, 9]);
     numbers("series APLX", &[4, 9]);
     let mut words = |call, list: &[&str]| {
@@ -193,6 +241,12 @@ pub fn required() -> Vec<(&'static str, String)> {
     }
     words("series SROM", &["stop end", "stop run ARM", "stop run Thumb"]);
     words("series APLX", &["stop end", "stop run ARM", "stop run Thumb"]);
+    words("flood_fill_block_start", &["ignored"]);
+    words("flood_fill_block_data", &["ignored"]);
+    words("flood_fill_block_end", &["missing", "done"]);
+    words("flood_fill", &["from the empty receiver", "from any receiver", "image whole"]);
+    words("flood_fill", &["done, 256 words", "done, block 255", "done, a shorter block"]);
+    words("flood_fill", &["done, does not fit", "done, block over 255", "done, over 256 words"]);
     words("scp_answer", &["no response", "run by RUN ARM", "run by RUN Thumb"]);
     words("scp_answer", &["run by APLX ARM", "run by APLX Thumb"]);
     for reply in [

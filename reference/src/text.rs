@@ -2,6 +2,7 @@
 //! A byte string is written with `*N` where a byte stands 8 times in a row or more.
 
 use crate::bytes::hex;
+use crate::receiver::RECEIVER;
 
 /// The most bytes of a buffer, and the most times of a part.
 const LONGEST: usize = 8192;
@@ -13,13 +14,15 @@ const ROW: usize = 8;
 #[derive(Clone, Copy)]
 pub enum Kind {
     Table,
+    /// A table that has the length of a flood-fill receiver.
+    Receiver,
     Memory,
     Output,
     Input,
     Number(u64),
 }
 
-use Kind::{Input, Memory, Number, Output, Table};
+use Kind::{Input, Memory, Number, Output, Receiver, Table};
 
 const WORD: Kind = Number(u32::MAX as u64);
 const LONG: Kind = Number(u64::MAX);
@@ -36,11 +39,15 @@ fn kinds(name: &str) -> Option<&'static [Kind]> {
         "map_sound" => &[Table, LONG],
         "lookup" => &[Table, Number(4), WORD, LONG],
         "run_entry" => &[Table, WORD],
+        "flood_fill_start" | "flood_fill_block_start" => &[Receiver, Memory, WORD, WORD],
+        "flood_fill_block_data" => &[Receiver, Memory, WORD, WORD, WORD],
+        "flood_fill_block_end" => &[Receiver, Memory, WORD],
         _ => return None,
     })
 }
 
-/// The buffers as the last call left them. A rom, a packet and a plan are inputs.
+/// The buffers as the last call left them. A rom, a packet and a plan are inputs; a receiver is a table, and an image that
+/// is received a memory.
 #[derive(Default)]
 pub struct Buffers {
     pub table: Vec<u8>,
@@ -57,7 +64,7 @@ pub fn read_call<'a>(line: &'a str, buffers: &mut Buffers) -> Option<(&'a str, V
     for kind in kinds(name)? {
         let word = words.next()?;
         let buffer = match kind {
-            Table => &mut buffers.table,
+            Table | Receiver => &mut buffers.table,
             Memory => &mut buffers.memory,
             Output => &mut buffers.output,
             Input => &mut buffers.input,
@@ -68,6 +75,9 @@ pub fn read_call<'a>(line: &'a str, buffers: &mut Buffers) -> Option<(&'a str, V
         };
         if word != "=" {
             *buffer = read_bytes(word)?;
+        }
+        if matches!(kind, Receiver) && buffer.len() != RECEIVER {
+            return None;
         }
     }
     words.next().is_none().then_some((name, numbers))

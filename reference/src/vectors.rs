@@ -1,17 +1,23 @@
 //! Writes the stored vectors: `vectors FILE` writes FILE, the calls of crates/replay/data/vectors, each with its
 //! number as its name. The head of crates/replay/data/cases says how a call is written. A sequence of additions is
-//! a row of map_add calls, each with the table that the one before it left.
+//! a row of map_add calls, each with the table that the one before it left; so is a series of flood-fill messages.
 
 use std::fs;
 use std::process::exit;
 
 use reference::bytes::unhex;
-use reference::generate::{case_of, Call, Case, Size};
+use reference::compare_flood::call;
+use reference::flood_fill::Message;
+use reference::generate::{case_of, Call, Case, Flood, Sent, Size};
 use reference::interface::{table_of, Library, Outcome, Reference};
 use reference::map::{Map, Region, Rights};
 use reference::random::Random;
-use reference::tally::{load_kind, number_kind, reply_kind, required, rights_kind, table_kind, Tally};
+use reference::tally::{
+    call_of, flood_kind, load_kind, number_kind, reply_kind, required, rights_kind, table_kind, Tally,
+};
 use reference::text::write_bytes;
+
+mod flood_vectors;
 
 /// The first line of the file.
 const HEAD: &str = "# Calls that the reference writes (reference/vectors). The head of the file `cases` says how they are \
@@ -28,6 +34,7 @@ const DRAWN: usize = 20_000;
 /// What can't occur with so small a memory or slice, or is not a thing of single calls.
 fn beyond(call: &str, what: &str) -> bool {
     call.starts_with("series")
+        || call == "flood_fill"
         || what.starts_with("memory")
         || what.starts_with("taken")
         || what.starts_with("identity")
@@ -58,9 +65,25 @@ impl Record {
         self
     }
 
+    fn words(mut self, words: &[u32]) -> Record {
+        for word in words {
+            self = self.number(u64::from(*word));
+        }
+        self
+    }
+
     fn slice(mut self, slice: &[u8]) -> Record {
         self.text += &format!(" {}", write_bytes(slice));
         self
+    }
+
+    /// `=` where the slice is as the call before left it.
+    fn kept(mut self, slice: &[u8], left: Option<&[u8]>) -> Record {
+        if left == Some(slice) {
+            self.text += " =";
+            return self;
+        }
+        self.slice(slice)
     }
 }
 
@@ -170,7 +193,28 @@ impl Vectors {
                     self.write(record);
                 }
             }
-            Case::Series { .. } => {}
+            Case::Series { .. } | Case::FloodFill(_) => {}
+        }
+    }
+
+    /// Adds the records of a series of flood-fill messages.
+    fn add_flood(&mut self, flood: &Flood) {
+        let mut receiver = *flood.receiver;
+        let mut image = flood.image.clone();
+        let mut left: Option<(Vec<u8>, Vec<u8>)> = None;
+        for Sent { message, lent } in flood.sent.iter().copied() {
+            let (table, memory) = (left.as_ref().map(|left| &left.0[..]), left.as_ref().map(|left| &left.1[..]));
+            let record = Record::new(call_of(message)).kept(&receiver, table).kept(&image[..lent], memory);
+            self.write(match message {
+                Message::Start { last_block, block_size } => record.words(&[last_block, block_size]),
+                Message::BlockStart { block, size } => record.words(&[block, size]),
+                Message::BlockData { block, word_id, word } => record.words(&[block, word_id, word]),
+                Message::BlockEnd { block } => record.words(&[block]),
+            });
+            let mut outcome: Outcome = [0; 8];
+            call(&Reference, &mut receiver, &mut image[..lent], message, &mut outcome);
+            self.tally.count(call_of(message), flood_kind(&outcome));
+            left = Some((receiver.to_vec(), image[..lent].to_vec()));
         }
     }
 }
@@ -286,6 +330,9 @@ fn main() {
             assert!(memory_length(&case) <= MOST_MEMORY);
             vectors.add(&case, drawn < 12);
         }
+    }
+    for flood in flood_vectors::all(&mut random) {
+        vectors.add_flood(&flood);
     }
     let mut missing = vectors.tally.missing(&required());
     missing.retain(|(call, what)| !beyond(call, what));

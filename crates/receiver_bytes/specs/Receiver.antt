@@ -4,6 +4,9 @@
 pub mod Flags
 pub mod Words
 pub mod Cases
+pub mod Parts
+pub mod Written
+pub mod Laws
 use mathlib.Core.Bool.{Bool, not}
 use mathlib.Core.List.{List, [], _∷_, _++_}
 use Prim.Native.Nat.{ℕ, zero, suc, _+_, _*_}

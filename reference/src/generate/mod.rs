@@ -1,12 +1,17 @@
 //! Random inputs of every call: valid ones, near-valid ones with one thing wrong, damaged ones, and random bytes.
 
+mod flood_damage;
+mod floods;
 mod images;
 mod maps;
 mod packets;
+mod pictures;
 mod plans;
+mod receivers;
 mod roms;
 mod stretches;
 
+pub use floods::{lent_whole, Flood, Sent, Whole};
 pub use maps::Scene;
 
 use crate::interface::Numbers;
@@ -26,12 +31,13 @@ pub enum Case {
     PackSrom { plan: Vec<u8>, output: Vec<u8> },
     PackAplx { plan: Vec<u8>, output: Vec<u8> },
     Series { plan: Vec<u8>, table: Vec<u8>, memory: Vec<u8>, medium: Medium, steps: Vec<Step> },
+    FloodFill(Flood),
 }
 
 /// How large inputs may be.
 #[derive(Clone, Copy, Debug, PartialEq, Eq)]
 pub enum Size {
-    /// For stored vectors: memory of at most 512 bytes, other slices of at most 1,200.
+    /// For stored vectors: memory of at most 512 bytes, other slices of at most 1,200, flood-fill images of few words.
     Stored,
     /// Mostly small; now and then many MB.
     Free,
@@ -48,6 +54,7 @@ pub enum Call {
     PackSrom,
     PackAplx,
     Series,
+    FloodFill,
 }
 
 /// An input of one call.
@@ -62,12 +69,13 @@ pub fn case_of(call: Call, random: &mut Random, size: Size) -> Case {
         Call::PackSrom => plans::pack_srom(random, size),
         Call::PackAplx => plans::pack_aplx(random, size),
         Call::Series => stretches::series(random),
+        Call::FloodFill => Case::FloodFill(floods::flood(random, size)),
     }
 }
 
 /// An input of any call.
 pub fn case(random: &mut Random) -> Case {
-    let call = match random.below(100) {
+    let call = match random.below(106) {
         0..=8 => Call::MapAdd,
         9..=12 => Call::MapSound,
         13..=27 => Call::SromLoad,
@@ -76,7 +84,8 @@ pub fn case(random: &mut Random) -> Case {
         68..=75 => Call::PlanRead,
         76..=84 => Call::PackSrom,
         85..=93 => Call::PackAplx,
-        _ => Call::Series,
+        94..=99 => Call::Series,
+        _ => Call::FloodFill,
     };
     case_of(call, random, Size::Free)
 }

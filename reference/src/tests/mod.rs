@@ -1,10 +1,13 @@
 //! Tests of the reference: the paper's pieces with known weight, the slips seen on the bench, each refusal number,
-//! the series of demand 3, and calls as text.
+//! the series of demand 3, the flood-fill receiver, and calls as text.
 
+mod flood_series;
+mod floods;
 mod loads;
 mod maps;
 mod outcomes;
 mod plans;
+mod receivers;
 mod slips;
 mod text;
 mod weighed;

@@ -31,6 +31,34 @@ fn a_buffer_is_kept() {
 }
 
 #[test]
+fn a_receiver_is_a_table_of_1544_bytes_and_its_image_a_memory() {
+    let mut buffers = Buffers::default();
+    assert!(read_call("flood_fill_start x00*1544 x77*8 1 1", &mut buffers).is_some());
+    buffers.table[0] = 2;
+    buffers.memory[7] = 0;
+    let line = "flood_fill_block_data = = 4294967295 4294967295 4294967295";
+    let largest = u64::from(u32::MAX);
+    assert_eq!(read_call(line, &mut buffers), Some(("flood_fill_block_data", vec![largest; 3])));
+    assert!(read_call("flood_fill_block_start = = 0 1", &mut buffers).is_some());
+    assert!(read_call("flood_fill_block_end = = 0", &mut buffers).is_some());
+    assert_eq!((buffers.table[0], buffers.table.len()), (2, 1544));
+    assert_eq!(buffers.memory, [0x77, 0x77, 0x77, 0x77, 0x77, 0x77, 0x77, 0]);
+    for line in [
+        "flood_fill_start x00*1543 x77*8 1 1",
+        "flood_fill_start x00*1545 x77*8 1 1",
+        "flood_fill_block_end x x 0",
+        "flood_fill_block_end = = 0",
+        "flood_fill_start x00*1544 x 4294967296 1",
+        "flood_fill_start x00*1544 x 1",
+        "flood_fill_block_start x00*1544 x 1 1 1",
+        "flood_fill_block_data x00*1544 x 1 1",
+        "flood_fill_block_end x00*1544 x 1 1",
+    ] {
+        assert_eq!(numbers(line), None, "{line}");
+    }
+}
+
+#[test]
 fn what_is_no_call_is_refused() {
     assert_eq!(numbers("map_sound x 18446744073709551615"), Some(vec![u64::MAX]));
     for line in [

@@ -1,6 +1,6 @@
 -- What a message leaves of the bytes, by the tests that the code makes.
-use mathlib.Core.Path.{_≡_, refl, ap, sym, _∙_}
-use mathlib.Core.Bool.{Bool, true, false, not, _&&_}
+use mathlib.Core.Path.{_≡_, refl, sym, _∙_}
+use mathlib.Core.Bool.{Bool, true, false, _&&_}
 use mathlib.Core.List.{List}
 use Prim.Native.Nat.{ℕ, _*_, _≤_, _<_, min}
 use native.Mathlib.Omega.{arith}
@@ -18,7 +18,7 @@ use Rattle.flood_fill.specs.declared.test.Tested.the-variants.{Refused, Passed}
 use Rattle.flood_fill.specs.Refusals.{isOpen, openSize, tested}
 use Rattle.flood_fill.specs.Answer.{Answer, refused, accepted, ignored, missing, done}
 use Rattle.flood_fill.specs.Receive.{isDone, isMarked, missingIn, lowestIn, wordBytes, blockStarted, dataCame, completed, blockEnded, receive}
-use Rattle.receiver_bytes.specs.Receiver.{headerIn, flagsIn, receiverIn, written, Left, receiveBytes}
+use Rattle.receiver_bytes.specs.Receiver.{headerIn, receiverIn, written, Left, receiveBytes}
 use Rattle.receiver_bytes.specs.Receiver.Flags.{length-flags, flag-past}
 use Rattle.receiver_bytes.specs.Receiver.Words.{length-words}
 

@@ -1,12 +1,11 @@
 -- `receiver_bytes::read::missing_words` meets its contract: the number of the empty flags of the first words.
-use mathlib.Core.Path.{_≡_, ap, sym, _∙_}
+use mathlib.Core.Path.{_≡_, ap, _∙_}
 use native.Mathlib.Omega.{arith}
-use mathlib.Core.Path.{_∙_, ap, sym}
 use Prim.Native.Nat.{_+_, _-_}
 use lib.ListN.{take, drop}
 use lib.Seq.{take-take}
 use Rattle.flood_fill.specs.Receive.{missingIn}
-use Rattle.receiver_bytes.specs.Receiver.{receiverIn, flagsIn}
+use Rattle.receiver_bytes.specs.Receiver.{receiverIn}
 use Rattle.receiver_bytes.specs.Receiver.Flags.{take-flags}
 use borrow.Author.Needs.{needs}
 use Rattle.receiver_bytes.proofs.read.missing_words.Statement.{statement}

@@ -1,7 +1,7 @@
 -- `receiver_bytes::read::put_words` meets its contract: words as bytes are the bytes that they were read from.
 use Rattle.words.specs.Bytes.{Bytes}
 use native.Mathlib.Omega.{arith}
-use mathlib.Core.Path.{_≡_, ap, sym, _∙_}
+use mathlib.Core.Path.{_≡_}
 use Prim.Native.Nat.{_+_, _*_, _-_}
 use Rattle.words.specs.Choice.Laws.{all-elements}
 use Rattle.receiver_bytes.specs.Receiver.{receiverIn}

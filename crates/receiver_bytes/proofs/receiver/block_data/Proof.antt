@@ -1,9 +1,7 @@
 -- `receiver_bytes::receiver::block_data` meets its contract: each return goes by the tests before it; a mark that is empty has a place.
-use native.Mathlib.Omega.{arith}
-use mathlib.Core.Path.{_≡_, refl, sym, _∙_}
+use mathlib.Core.Path.{refl, sym, _∙_}
 use borrow.Author.Tests.{not-true, not-false}
 use Rattle.flood_fill.specs.declared.message.Message.the-variants.{BlockData}
-use Rattle.receiver_bytes.specs.Receiver.{headerIn}
 use Rattle.receiver_bytes.specs.Receiver.Cases.{when-refused, when-passed, data-unwanted, data-marked, data-accepted, unmarked-below}
 use borrow.Author.Needs.{needs}
 use Rattle.receiver_bytes.proofs.receiver.block_data.Statement.{statement}

@@ -1,13 +1,10 @@
 -- `receiver_bytes::receiver::block_end` meets its contract: it is refused, words are missing, or the block is done.
-use lib.ListN.{length}
 use native.Mathlib.Omega.{arith}
-use mathlib.Core.Path.{_≡_, refl, ap, sym, _∙_}
-use Prim.Native.Nat.{_*_, _≤_, min}
+use mathlib.Core.Path.{refl}
+use Prim.Native.Nat.{_*_, _≤_}
 use native.Mathlib.Nat.{mul-le-mul-right}
 use borrow.Author.Tests.{lt-ltb, le-ltb}
-use Rattle.flood_fill.specs.Refusals.{openSize}
 use Rattle.flood_fill.specs.declared.message.Message.the-variants.{BlockEnd}
-use Rattle.receiver_bytes.specs.Receiver.{headerIn}
 use Rattle.receiver_bytes.specs.Receiver.Cases.{when-refused, when-passed, end-missing, end-done}
 use borrow.Author.Needs.{needs}
 use Rattle.receiver_bytes.proofs.receiver.block_end.Statement.{statement}

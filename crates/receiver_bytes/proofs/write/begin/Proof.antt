@@ -1,6 +1,5 @@
 -- `receiver_bytes::write::begin` meets its contract: two numbers before zeros.
-use native.Mathlib.Omega.{arith}
-use mathlib.Core.Path.{_≡_, refl, _∙_}
+use mathlib.Core.Path.{_∙_}
 use native.Mathlib.Numerals.{add-one}
 use Rattle.words.specs.Bytes.{littleEndian}
 use Rattle.words.specs.Store.{store, storeIfFits}

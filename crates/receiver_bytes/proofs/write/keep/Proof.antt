@@ -3,7 +3,6 @@ use lib.ListN.{set}
 use native.Mathlib.Omega.{arith}
 use mathlib.Core.Path.{_∙_}
 use Prim.Native.Nat.{_+_, _*_}
-use lib.ListN.{set, length-set}
 use Rattle.words.specs.Bytes.{littleEndian}
 use Rattle.words.specs.Bytes.Laws.{length-littleEndian}
 use Rattle.words.specs.Store.Laws.{store-fits}

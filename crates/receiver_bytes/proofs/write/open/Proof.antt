@@ -7,9 +7,7 @@ use Rattle.words.specs.Store.{store}
 use native.Mathlib.Omega.{arith}
 use mathlib.Core.Path.{_≡_, _∙_, ap}
 use mathlib.Core.List.{_++_}
-use lib.ListN.{replicate}
 use Rattle.words.specs.Bytes.{littleEndian}
-use Rattle.words.specs.Store.{store, storeIfFits}
 use Rattle.words.specs.Store.Laws.{store-fits, store-part, store-behind}
 use Rattle.receiver_bytes.specs.Receiver.{written}
 use borrow.Author.Needs.{needs}
