@@ -1,5 +1,6 @@
 -- What a message does to the receiver and to the lent image, and what it is answered (paper 02, C-14).
 pub mod Laws
+pub mod Flags
 use mathlib.Core.Path.{_≡_}
 use mathlib.Core.Bool.{Bool, true, false, not, _&&_}
 use mathlib.Core.List.{List, [], _∷_, _++_}

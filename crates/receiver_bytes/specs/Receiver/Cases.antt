@@ -2,13 +2,11 @@
 use mathlib.Core.Path.{_≡_, refl, sym, _∙_}
 use mathlib.Core.Bool.{Bool, true, false, _&&_}
 use mathlib.Core.List.{List}
-use Prim.Native.Nat.{ℕ, _*_, _≤_, _<_, min}
+use Prim.Native.Nat.{ℕ, _*_, _<_, min}
 use native.Mathlib.Omega.{arith}
-use lib.Dec.{ltb, leb}
+use lib.Dec.{ltb}
 use lib.ListN.{length, take, drop, length-take, length-drop}
-use lib.Seq.{take-all, length-take-le}
-use borrow.Author.Tests.{leb-true, leb-false}
-use Rattle.words.specs.Choice.Laws.{true-is-false}
+use lib.Seq.{length-take-le}
 use Rattle.words.specs.Store.{storeIfFits}
 use Rattle.flood_fill.specs.declared.message.Message.{Message}
 use Rattle.flood_fill.specs.declared.message.Message.the-variants.{Start, BlockStart, BlockData, BlockEnd}
@@ -18,8 +16,9 @@ use Rattle.flood_fill.specs.declared.test.Tested.the-variants.{Refused, Passed}
 use Rattle.flood_fill.specs.Refusals.{isOpen, openSize, tested}
 use Rattle.flood_fill.specs.Answer.{Answer, refused, accepted, ignored, missing, done}
 use Rattle.flood_fill.specs.Receive.{isDone, isMarked, missingIn, lowestIn, wordBytes, blockStarted, dataCame, completed, blockEnded, receive}
-use Rattle.receiver_bytes.specs.Receiver.{headerIn, receiverIn, written, Left, receiveBytes}
-use Rattle.receiver_bytes.specs.Receiver.Flags.{length-flags, flag-past}
+use Rattle.flood_fill.specs.Receive.Flags.{flag-there, take-min}
+use Rattle.receiver_bytes.specs.Receiver.{headerIn, flagsIn, receiverIn, written, Left, receiveBytes}
+use Rattle.receiver_bytes.specs.Receiver.Flags.{length-flags}
 use Rattle.receiver_bytes.specs.Receiver.Words.{length-words}
 
 abbrev pub left : List ℕ → List ℕ → Answer → Left
@@ -73,23 +72,11 @@ module _ (s image : List ℕ) (b w v : ℕ) (e : tested (headerIn s) (BlockData 
 -- an empty mark is one of 256
 pub unmarked-below : (s : List ℕ) (w : ℕ) → isMarked (receiverIn s) w ≡ false → w < 256
 unfolding receiverIn
-unmarked-below s w e = go (leb 256 w) refl
-  where
-    go : (t : Bool) → leb 256 w ≡ t → w < 256
-    go false h = leb-false 256 w h
-    go true h =
-        let g : length (take 256 (drop 264 s)) ≤ w = omega (arith, leb-true 256 w h, length-take 256 (drop 264 s)) in
-        true-is-false (sym (flag-past (take 256 (drop 264 s)) w true g) ∙ e)
+unmarked-below s w e =
+    let h = flag-there (flagsIn (take 256 (drop 264 s))) w e in
+    omega (arith, length-flags (take 256 (drop 264 s)), length-take 256 (drop 264 s))
 
 -- ---- the end of a block, of which the first k words have a place
--- 256 elements, cut at 256 first
-take-min : {A : Type 0} (n : ℕ) (l : List A) → length l ≡ 256 → take (min n 256) l ≡ take n l
-take-min n l e = go (leb n 256) refl
-  where
-    go : (t : Bool) → leb n 256 ≡ t → take (min n 256) l ≡ take n l
-    go true h = let z : min n 256 ≡ n = omega (arith, leb-true n 256 h) in rw z
-    go false h = let g = leb-false n 256 h in take-all (min n 256) l (omega arith) ∙ sym (take-all n l (omega arith))
-
 module _ (s image : List ℕ) (b : ℕ) (long : length s ≡ 1544) (e : tested (headerIn s) (BlockEnd b) (length image) ≡ Passed) where
   all-marks : length (receiverIn s .marks) ≡ 256
   unfolding receiverIn

@@ -1,15 +1,14 @@
--- Laws of flags in bytes: their parts, the empty ones among them, and one that is set.
-use mathlib.Core.Path.{_≡_, refl, ap}
+-- Laws of flags in bytes: one of them, their parts, and one that is set.
+use mathlib.Core.Path.{_≡_, refl, ap, _∙_}
 use mathlib.Core.Bool.{Bool, true, false, not}
 use mathlib.Core.List.{List, [], _∷_}
 use Prim.Native.Nat.{ℕ, zero, suc, _+_, _≤_, _<_}
 use native.Mathlib.Numerals.{add-one}
 use native.Mathlib.Omega.{arith}
 use lib.Dec.{eqb}
-use lib.ListN.{length, take, drop, getD, set, replicate, drop-of-length-le, replicate-append-replicate, List·getD-eq-default}
-use lib.Seq.{drop-cons, take-suc-set}
+use lib.ListN.{length, take, getD, set, replicate, replicate-append-replicate, List·getD-eq-default}
+use lib.Seq.{take-suc-set}
 use borrow.Author.Tests.{eq-eqb, ne-eqb}
-use Rattle.flood_fill.specs.Receive.{missingIn, lowestIn}
 use Rattle.receiver_bytes.specs.Receiver.{flagsIn}
 
 pub length-flags : (s : List ℕ) → length (flagsIn s) ≡ length s
@@ -50,35 +49,9 @@ pub one-more-zero : (s : List ℕ) (i : ℕ) → i < length s → take i s ≡ r
 one-more-zero s i h e =
     rw (add-one i, take-suc-set s i 0 h, e, replicate-append-replicate {A = ℕ} i 1 0, add-one i)
 
--- ---- those from place i on: the flag at i, and those behind it
-module _ (s : List ℕ) (i : ℕ) (h : i < length s) where
-  next : drop i s ≡ getD s i 0 ∷ drop (i + 1) s
-  next = rw (add-one i) (drop-cons s i 0 h)
+-- ---- the flag of a byte
+pub flag-empty : (s : List ℕ) (i : ℕ) → i < length s → getD s i 0 ≡ 0 → getD (flagsIn s) i false ≡ false
+flag-empty s i h e = flag-at s i false h ∙ ap not (eq-eqb (getD s i 0) 0 e)
 
-  module _ (e : getD s i 0 ≡ 0) where
-    pub missing-empty : missingIn (flagsIn (drop i s)) ≡ suc (missingIn (flagsIn (drop (i + 1) s)))
-    unfolding missingIn flagsIn
-    missing-empty = rw (next, eq-eqb (getD s i 0) 0 e)
-
-    pub lowest-empty : lowestIn (flagsIn (drop i s)) ≡ 0
-    unfolding lowestIn flagsIn
-    lowest-empty = rw (next, eq-eqb (getD s i 0) 0 e)
-
-  module _ (e : getD s i 0 ≡ 0 → ⊥) where
-    pub missing-set : missingIn (flagsIn (drop i s)) ≡ missingIn (flagsIn (drop (i + 1) s))
-    unfolding missingIn flagsIn
-    missing-set = rw (next, ne-eqb (getD s i 0) 0 e)
-
-    pub lowest-set : lowestIn (flagsIn (drop i s)) ≡ suc (lowestIn (flagsIn (drop (i + 1) s)))
-    unfolding lowestIn flagsIn
-    lowest-set = rw (next, ne-eqb (getD s i 0) 0 e)
-
--- none is left
-module _ (s : List ℕ) (i : ℕ) (h : length s ≤ i) where
-  pub missing-none : missingIn (flagsIn (drop i s)) ≡ 0
-  unfolding missingIn flagsIn
-  missing-none = rw (drop-of-length-le s h)
-
-  pub lowest-none : lowestIn (flagsIn (drop i s)) ≡ 0
-  unfolding lowestIn flagsIn
-  lowest-none = rw (drop-of-length-le s h)
+pub flag-set : (s : List ℕ) (i : ℕ) → i < length s → (getD s i 0 ≡ 0 → ⊥) → getD (flagsIn s) i false ≡ true
+flag-set s i h e = flag-at s i false h ∙ ap not (ne-eqb (getD s i 0) 0 e)

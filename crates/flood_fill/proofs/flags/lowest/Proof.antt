@@ -1,5 +1,5 @@
 -- `flood_fill::flags::lowest` meets its contract: the loop's invariant: all flags before i are set.
-use Rattle.flood_fill.proofs.Facts.{lowest-set, lowest-empty, lowest-none}
+use Rattle.flood_fill.specs.Receive.Flags.{lowest-set, lowest-empty, lowest-none}
 use borrow.Author.Tests.{not-true, not-false}
 use Rattle.flood_fill.specs.Receive.{lowestIn}
 use lib.ListN.{length, drop}

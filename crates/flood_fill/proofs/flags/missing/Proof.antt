@@ -1,6 +1,6 @@
 -- `flood_fill::flags::missing` meets its contract: the loop's invariant: those counted and those left make up the number.
 use borrow.Author.Tests.{not-true, not-false}
-use Rattle.flood_fill.proofs.Facts.{missing-set, missing-empty, missing-none}
+use Rattle.flood_fill.specs.Receive.Flags.{missing-set, missing-empty, missing-none}
 use Rattle.flood_fill.specs.Receive.{missingIn}
 use mathlib.Core.Logic.{⊎-elim}
 use lib.ListN.{length, drop}

@@ -1,5 +1,5 @@
 -- `flood_fill::store::store_words` meets its contract: the loop's invariant: the first i words are stored.
-use Rattle.flood_fill.proofs.Facts.{bytes-more}
+use Rattle.flood_fill.specs.Receive.Laws.{bytes-more}
 use Rattle.flood_fill.specs.Receive.Laws.{length-wordBytes}
 use Rattle.flood_fill.specs.Receive.{wordBytes}
 use Rattle.words.specs.Bytes.Laws.{length-littleEndian}

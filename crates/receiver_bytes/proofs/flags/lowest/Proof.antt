@@ -6,12 +6,13 @@ use Prim.Native.Nat.{_≤_, _+_, _-_}
 use lib.ListN.{length, drop}
 use Rattle.flood_fill.specs.Receive.{lowestIn}
 use Rattle.receiver_bytes.specs.Receiver.{flagsIn}
-use Rattle.receiver_bytes.specs.Receiver.Flags.{lowest-set, lowest-empty, lowest-none}
+use Rattle.flood_fill.specs.Receive.Flags.{lowest-set, lowest-empty, lowest-none}
+use Rattle.receiver_bytes.specs.Receiver.Flags.{length-flags, flag-empty, flag-set}
 use Rattle.receiver_bytes.proofs.flags.lowest.Statement.{statement}
 use Rattle.receiver_bytes.proofs.flags.lowest.Tie as tie
 
 abbrev Inv-loop : tie.InvT-loop
-Inv-loop flags i₀ i = (i ≤ length flags) × (i + lowestIn (flagsIn (drop i flags)) ≡ lowestIn (flagsIn flags))
+Inv-loop flags i₀ i = (i ≤ length flags) × (i + lowestIn (drop i (flagsIn flags)) ≡ lowestIn (flagsIn flags))
 
 abbrev μ-loop : tie.MeasureT-loop
 μ-loop flags i₀ i = length flags - i
@@ -27,7 +28,9 @@ cast-result c = omega arith
 
 returns : tie.Need-returns Inv-loop μ-loop
 returns c = let l = c .before .before .before .loop in
-    let z = lowest-empty (c .before .before .before .before .args .flags .now) (l .i) (omega arith) (c .if1 .taken) in
+    let s = c .before .before .before .before .args .flags .now in
+    let n = length-flags s in
+    let z = lowest-empty (flagsIn s) (l .i) (omega arith) (flag-empty s (l .i) (omega arith) (c .if1 .taken)) in
     omega arith
 
 add-i : tie.Need-add-i Inv-loop μ-loop
@@ -38,14 +41,19 @@ loop-less c = search needs
 
 loop-again : tie.Need-loop-again Inv-loop μ-loop
 loop-again c = let l = c .before .before .before .loop in
-    let z = lowest-set (c .before .before .before .before .args .flags .now) (l .i) (omega arith) (c .if1 .left) in
+    let s = c .before .before .before .before .args .flags .now in
+    let n = length-flags s in
+    let z = lowest-set (flagsIn s) (l .i) (omega arith) (flag-set s (l .i) (omega arith) (c .if1 .left)) in
     omega arith
 
 cast-result-2 : tie.Need-cast-result-2 Inv-loop μ-loop
 cast-result-2 c = omega arith
 
 returns-2 : tie.Need-returns-2 Inv-loop μ-loop
-returns-2 c = let z = lowest-none (c .before .before .args .flags .now) (c .before .loop .i) (omega arith) in omega arith
+returns-2 c =
+    let s = c .before .before .args .flags .now in
+    let z = lowest-none (flagsIn s) (c .before .loop .i) (omega (arith, length-flags s)) in
+    omega arith
 
 pub lowest-spec : {M : Type 1} → statement M
 lowest-spec =

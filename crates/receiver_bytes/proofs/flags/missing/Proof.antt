@@ -7,12 +7,13 @@ use Prim.Native.Nat.{_≤_, _+_, _-_}
 use lib.ListN.{length, drop}
 use Rattle.flood_fill.specs.Receive.{missingIn}
 use Rattle.receiver_bytes.specs.Receiver.{flagsIn}
-use Rattle.receiver_bytes.specs.Receiver.Flags.{missing-set, missing-empty, missing-none}
+use Rattle.flood_fill.specs.Receive.Flags.{missing-set, missing-empty, missing-none}
+use Rattle.receiver_bytes.specs.Receiver.Flags.{length-flags, flag-empty, flag-set}
 use Rattle.receiver_bytes.proofs.flags.missing.Statement.{statement}
 use Rattle.receiver_bytes.proofs.flags.missing.Tie as tie
 
 abbrev Inv-loop : tie.InvT-loop
-Inv-loop flags number₀ i₀ number i = (i ≤ length flags) × (number ≤ i) × (number + missingIn (flagsIn (drop i flags)) ≡ missingIn (flagsIn flags))
+Inv-loop flags number₀ i₀ number i = (i ≤ length flags) × (number ≤ i) × (number + missingIn (drop i (flagsIn flags)) ≡ missingIn (flagsIn flags))
 
 abbrev μ-loop : tie.MeasureT-loop
 μ-loop flags number₀ i₀ number i = length flags - i
@@ -35,11 +36,15 @@ loop-less c = search needs
 loop-again : tie.Need-loop-again Inv-loop μ-loop
 loop-again c = let l = c .before .before .before .loop in
     let s = c .before .before .before .before .args .flags .now in
-    ⊎-elim (λ w. let z = missing-empty s (l .i) (omega arith) (w .0 .taken) in omega arith)
-    (λ w. let z = missing-set s (l .i) (omega arith) (w .0 .left) in omega arith) (c .if1 .came)
+    let n = length-flags s in
+    ⊎-elim (λ w. let z = missing-empty (flagsIn s) (l .i) (omega arith) (flag-empty s (l .i) (omega arith) (w .0 .taken)) in omega arith)
+    (λ w. let z = missing-set (flagsIn s) (l .i) (omega arith) (flag-set s (l .i) (omega arith) (w .0 .left)) in omega arith) (c .if1 .came)
 
 returns : tie.Need-returns Inv-loop μ-loop
-returns c = let z = missing-none (c .before .before .args .flags .now) (c .before .loop .i) (omega arith) in omega arith
+returns c =
+    let s = c .before .before .args .flags .now in
+    let z = missing-none (flagsIn s) (c .before .loop .i) (omega (arith, length-flags s)) in
+    omega arith
 
 pub missing-spec : {M : Type 1} → statement M
 missing-spec =

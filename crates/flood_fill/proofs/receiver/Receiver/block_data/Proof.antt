@@ -5,7 +5,7 @@ use borrow.Author.Tests.{not-true, not-false}
 use native.Mathlib.Omega.{arith}
 use borrow.Author.Needs.{needs}
 use Rattle.flood_fill.proofs.Ends.{data-came}
-use Rattle.flood_fill.proofs.Facts.{flag-there}
+use Rattle.flood_fill.specs.Receive.Flags.{flag-there}
 use Rattle.flood_fill.proofs.receiver.Receiver.block_data.Statement.{statement}
 use Rattle.flood_fill.proofs.receiver.Receiver.block_data.Tie as tie
 

@@ -8,7 +8,7 @@ use borrow.Author.Needs.{needs}
 use Rattle.flood_fill.specs.Refusals.{openSize}
 use Rattle.flood_fill.specs.Receive.{missingIn, lowestIn, completed, blockEnded}
 use Rattle.flood_fill.proofs.Ends.{ended-whole}
-use Rattle.flood_fill.proofs.Facts.{take-min}
+use Rattle.flood_fill.specs.Receive.Flags.{take-min}
 use Rattle.flood_fill.proofs.receiver.Receiver.block_end.Statement.{statement}
 use Rattle.flood_fill.proofs.receiver.Receiver.block_end.Tie as tie
 

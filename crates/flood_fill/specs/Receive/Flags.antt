@@ -1,17 +1,15 @@
--- Facts that several proofs use.
-use mathlib.Core.Path.{_≡_, refl, ap, sym, _∙_}
+-- Laws of flags: one of them, the empty ones among those from a place on, and 256 of them.
+use mathlib.Core.Path.{_≡_, refl, sym, _∙_}
 use mathlib.Core.Bool.{Bool, true, false}
-use mathlib.Core.List.{List, [], _∷_, _++_, append-nil}
+use mathlib.Core.List.{List, [], _∷_}
 use Prim.Native.Nat.{ℕ, zero, suc, _+_, _≤_, _<_, min}
-use lib.Dec.{leb}
-use borrow.Author.Tests.{leb-true, leb-false}
 use native.Mathlib.Numerals.{add-one}
 use native.Mathlib.Omega.{arith}
+use lib.Dec.{leb}
 use lib.ListN.{length, take, drop, getD, drop-of-length-le}
-use lib.Seq.{drop-cons, take-suc, take-all}
-use Rattle.words.specs.Bytes.{littleEndian}
-use Rattle.flood_fill.specs.Receive.{missingIn, lowestIn, wordBytes}
-use Rattle.flood_fill.specs.Receive.Laws.{wordBytes-append}
+use lib.Seq.{drop-cons, take-all}
+use borrow.Author.Tests.{leb-true, leb-false}
+use Rattle.flood_fill.specs.Receive.{missingIn, lowestIn}
 
 -- an element does not depend on what stands past the end
 pub same-element : (l : List Bool) (i : ℕ) (d e : Bool) → i < length l → getD l i d ≡ getD l i e
@@ -54,12 +52,6 @@ missing-none l i h = rw (drop-of-length-le l h)
 pub lowest-none : (l : List Bool) (i : ℕ) → length l ≤ i → lowestIn (drop i l) ≡ 0
 unfolding lowestIn
 lowest-none l i h = rw (drop-of-length-le l h)
-
--- ---- the bytes of one word more
-pub bytes-more : (l : List ℕ) (i : ℕ) → i < length l → wordBytes (take (i + 1) l) ≡ wordBytes (take i l) ++ littleEndian 4 (getD l i 0)
-unfolding wordBytes
-bytes-more l i h =
-    rw (add-one i, take-suc l i 0 h) (wordBytes-append (take i l) (getD l i 0 ∷ []) ∙ ap (λ (x : List ℕ). wordBytes (take i l) ++ x) (append-nil (littleEndian 4 (getD l i 0))))
 
 -- 256 elements, cut at 256 first
 pub take-min : {A : Type 0} (n : ℕ) (l : List A) → length l ≡ 256 → take (min n 256) l ≡ take n l
