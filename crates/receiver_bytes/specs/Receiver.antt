@@ -57,12 +57,16 @@ receiverIn s =
     }
 
 -- ---- what a message that is done leaves of the bytes
--- a Start writes all of them anew; a Block Start the open block, and no word has come; a word that is kept is written, and has come; a
--- completed block is done, and no block is open. There is a byte for each of 256 blocks
+-- a word that is kept is written, and has come
+abbrev pub withWord : List ℕ → ℕ → ℕ → List ℕ
+withWord s w v = store (set s (264 + w) 1) (520 + 4 * w) (littleEndian 4 v)
+
+-- a Start writes all of them anew; a Block Start the open block, and no word has come; a completed block is done, and no block is open.
+-- There is a byte for each of 256 blocks
 unfoldable pub written : List ℕ → Message → List ℕ
 written s (Start last n) = littleEndian 2 (suc last) ++ (littleEndian 2 n ++ replicate 1540 0)
 written s (BlockStart b n) = store (store s 4 (littleEndian 2 b ++ littleEndian 2 n)) 264 (replicate 256 0)
-written s (BlockData b w v) = store (set s (264 + w) 1) (520 + 4 * w) (littleEndian 4 v)
+written s (BlockData b w v) = withWord s w v
 written s (BlockEnd b) = let t = store s 4 (replicate 4 0) in if ltb b 256 then set t (8 + b) 1 else t
 
 -- any other message changes no byte

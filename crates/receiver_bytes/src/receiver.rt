@@ -85,7 +85,7 @@ pub fn block_data(
             if is_marked(bytes, word_id) {
                 return Answer::Ignored;
             }
-            keep(bytes, block, word_id as usize, word);
+            keep(bytes, word_id as usize, word);
             Answer::Accepted
         }
     }

@@ -3,7 +3,7 @@ ghost use mathlib.Core.Path.{_≡_};
 ghost use Prim.Native.Nat.{_<_};
 ghost use lib.ListN.{length};
 ghost use Rattle.flood_fill.specs.declared.message.Message.the-variants as messages;
-ghost use Rattle.receiver_bytes.specs.Receiver.{written};
+ghost use Rattle.receiver_bytes.specs.Receiver.{withWord, written};
 use crate::flags::clear;
 use crate::layout::COUNT;
 use crate::layout::DONE;
@@ -37,10 +37,10 @@ pub(crate) fn open(bytes: &mut [u8], block: u16, size: u16)
     clear(&mut bytes[MARKS..WORDS]);
 }
 
-// Keeps and marks a word of a block.
-pub(crate) fn keep(bytes: &mut [u8; RECEIVER], block: u32, word_id: usize, word: u32)
+// Keeps and marks a word.
+pub(crate) fn keep(bytes: &mut [u8; RECEIVER], word_id: usize, word: u32)
     requires { ⌜ «word_id» < 256 ⌝ }
-    ensures { λ _. ⌜ now (bytes .exit) ≡ written (now (bytes .entry)) (messages.BlockData block «word_id» word) ⌝ }
+    ensures { λ _. ⌜ now (bytes .exit) ≡ withWord (now (bytes .entry)) «word_id» word ⌝ }
 {
     bytes[MARKS + word_id] = 1;
     le_word(bytes, WORDS + 4 * word_id, word);

@@ -49,9 +49,9 @@ pub one-more-zero : (s : List ℕ) (i : ℕ) → i < length s → take i s ≡ r
 one-more-zero s i h e =
     rw (add-one i, take-suc-set s i 0 h, e, replicate-append-replicate {A = ℕ} i 1 0, add-one i)
 
--- ---- the flag of a byte
-pub flag-empty : (s : List ℕ) (i : ℕ) → i < length s → getD s i 0 ≡ 0 → getD (flagsIn s) i false ≡ false
-flag-empty s i h e = flag-at s i false h ∙ ap not (eq-eqb (getD s i 0) 0 e)
+-- ---- the flag of a byte that is 0, and of any other
+pub zero-flag : (s : List ℕ) (i : ℕ) → i < length s → getD s i 0 ≡ 0 → getD (flagsIn s) i false ≡ false
+zero-flag s i h e = flag-at s i false h ∙ ap not (eq-eqb (getD s i 0) 0 e)
 
-pub flag-set : (s : List ℕ) (i : ℕ) → i < length s → (getD s i 0 ≡ 0 → ⊥) → getD (flagsIn s) i false ≡ true
-flag-set s i h e = flag-at s i false h ∙ ap not (ne-eqb (getD s i 0) 0 e)
+pub other-flag : (s : List ℕ) (i : ℕ) → i < length s → (getD s i 0 ≡ 0 → ⊥) → getD (flagsIn s) i false ≡ true
+other-flag s i h e = flag-at s i false h ∙ ap not (ne-eqb (getD s i 0) 0 e)

@@ -7,7 +7,7 @@ use lib.ListN.{length, drop}
 use Rattle.flood_fill.specs.Receive.{lowestIn}
 use Rattle.receiver_bytes.specs.Receiver.{flagsIn}
 use Rattle.flood_fill.specs.Receive.Flags.{lowest-set, lowest-empty, lowest-none}
-use Rattle.receiver_bytes.specs.Receiver.Flags.{length-flags, flag-empty, flag-set}
+use Rattle.receiver_bytes.specs.Receiver.Flags.{length-flags, zero-flag, other-flag}
 use Rattle.receiver_bytes.proofs.flags.lowest.Statement.{statement}
 use Rattle.receiver_bytes.proofs.flags.lowest.Tie as tie
 
@@ -30,7 +30,7 @@ returns : tie.Need-returns Inv-loop μ-loop
 returns c = let l = c .before .before .before .loop in
     let s = c .before .before .before .before .args .flags .now in
     let n = length-flags s in
-    let z = lowest-empty (flagsIn s) (l .i) (omega arith) (flag-empty s (l .i) (omega arith) (c .if1 .taken)) in
+    let z = lowest-empty (flagsIn s) (l .i) (omega arith) (zero-flag s (l .i) (omega arith) (c .if1 .taken)) in
     omega arith
 
 add-i : tie.Need-add-i Inv-loop μ-loop
@@ -43,7 +43,7 @@ loop-again : tie.Need-loop-again Inv-loop μ-loop
 loop-again c = let l = c .before .before .before .loop in
     let s = c .before .before .before .before .args .flags .now in
     let n = length-flags s in
-    let z = lowest-set (flagsIn s) (l .i) (omega arith) (flag-set s (l .i) (omega arith) (c .if1 .left)) in
+    let z = lowest-set (flagsIn s) (l .i) (omega arith) (other-flag s (l .i) (omega arith) (c .if1 .left)) in
     omega arith
 
 cast-result-2 : tie.Need-cast-result-2 Inv-loop μ-loop

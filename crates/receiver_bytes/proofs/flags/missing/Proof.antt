@@ -8,7 +8,7 @@ use lib.ListN.{length, drop}
 use Rattle.flood_fill.specs.Receive.{missingIn}
 use Rattle.receiver_bytes.specs.Receiver.{flagsIn}
 use Rattle.flood_fill.specs.Receive.Flags.{missing-set, missing-empty, missing-none}
-use Rattle.receiver_bytes.specs.Receiver.Flags.{length-flags, flag-empty, flag-set}
+use Rattle.receiver_bytes.specs.Receiver.Flags.{length-flags, zero-flag, other-flag}
 use Rattle.receiver_bytes.proofs.flags.missing.Statement.{statement}
 use Rattle.receiver_bytes.proofs.flags.missing.Tie as tie
 
@@ -37,8 +37,8 @@ loop-again : tie.Need-loop-again Inv-loop μ-loop
 loop-again c = let l = c .before .before .before .loop in
     let s = c .before .before .before .before .args .flags .now in
     let n = length-flags s in
-    ⊎-elim (λ w. let z = missing-empty (flagsIn s) (l .i) (omega arith) (flag-empty s (l .i) (omega arith) (w .0 .taken)) in omega arith)
-    (λ w. let z = missing-set (flagsIn s) (l .i) (omega arith) (flag-set s (l .i) (omega arith) (w .0 .left)) in omega arith) (c .if1 .came)
+    ⊎-elim (λ w. let z = missing-empty (flagsIn s) (l .i) (omega arith) (zero-flag s (l .i) (omega arith) (w .0 .taken)) in omega arith)
+    (λ w. let z = missing-set (flagsIn s) (l .i) (omega arith) (other-flag s (l .i) (omega arith) (w .0 .left)) in omega arith) (c .if1 .came)
 
 returns : tie.Need-returns Inv-loop μ-loop
 returns c =

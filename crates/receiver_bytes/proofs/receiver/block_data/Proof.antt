@@ -4,6 +4,7 @@ use borrow.Author.Tests.{not-true, not-false}
 use Rattle.flood_fill.specs.declared.message.Message.the-variants.{BlockData}
 use Rattle.receiver_bytes.specs.Receiver.Cases.{when-refused, when-passed, data-unwanted, data-marked, data-accepted, unmarked-below}
 use borrow.Author.Needs.{needs}
+use Rattle.receiver_bytes.specs.Receiver.{written}
 use Rattle.receiver_bytes.proofs.receiver.block_data.Statement.{statement}
 use Rattle.receiver_bytes.proofs.receiver.block_data.Tie as tie
 
@@ -52,6 +53,7 @@ returns-3 c = let t = c .before .before .before in
     (refl, refl)
 
 returns-4 : tie.Need-returns-4
+unfolding written
 returns-4 c = let j = c .before .before in
     let i = j .before .before .before .before in
     let t = i .before .before .before .before in

@@ -6,7 +6,6 @@ use Prim.Native.Nat.{_+_, _*_}
 use Rattle.words.specs.Bytes.{littleEndian}
 use Rattle.words.specs.Bytes.Laws.{length-littleEndian}
 use Rattle.words.specs.Store.Laws.{store-fits}
-use Rattle.receiver_bytes.specs.Receiver.{written}
 use borrow.Author.Needs.{needs}
 use Rattle.receiver_bytes.proofs.write.keep.Statement.{statement}
 use Rattle.receiver_bytes.proofs.write.keep.Tie as tie
@@ -27,7 +26,6 @@ le-word-requires : tie.Need-le-word-requires
 le-word-requires c κs = search needs
 
 returns : tie.Need-returns
-unfolding written
 returns c = let x = c .before .before .args in
     c .le-word .ensures
     ∙ store-fits (set (x .bytes .now) (264 + x .word-id) 1) (520 + 4 * x .word-id) (littleEndian 4 (x .word)) (omega (arith, length-littleEndian 4 (x .word)))
