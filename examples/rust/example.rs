@@ -1,9 +1,11 @@
 //! The steps of examples/c/example.c from Rust: one region of memory; a plan packed as an APLX image into it; the image loaded; the same by
-//! way of a serial ROM; packets answered. Each call is shown with its event and its eight numbers, in hex.
+//! way of a serial ROM; packets answered. Then the flood-fill messages of docs/FORMATS.md. Each call is shown with its event and its eight
+//! numbers, in hex.
 
 mod reidhintsje;
 
-use reidhintsje::{Event, Identity, Outcome, Target, MAP_BYTES, MAY_READ, MAY_RUN, MAY_WRITE, SCP_OUTPUT_BYTES};
+use reidhintsje::{Event, Identity, Outcome, Receiver, Target};
+use reidhintsje::{MAP_BYTES, MAY_READ, MAY_RUN, MAY_WRITE, RECEIVER_BYTES, SCP_OUTPUT_BYTES};
 
 /// The region's first address, which is memory[0]; and where the image is put in memory.
 const BASE: u32 = 0xf500_0000;
@@ -79,4 +81,22 @@ fn main() {
     tell("answer", reidhintsje::scp_answer(&map, &mut memory, identity, &packet, &mut output[..SCP_OUTPUT_BYTES - 1]));
     let start = [1, 0, 3, 1, 0, 0, 0, 0xf5];
     tell("answer", reidhintsje::scp_answer(&map, &mut memory, identity, &start, &mut output));
+
+    // An image in two blocks of two words, the last with one word. It needs 16 bytes. One word comes twice, one late; an end comes twice.
+    let mut receiver: Receiver = [0; RECEIVER_BYTES];
+    let mut image = [0xee; 16];
+    tell("start", reidhintsje::flood_fill_start(&mut receiver, &image[..15], 1, 2));
+    tell("start", reidhintsje::flood_fill_start(&mut receiver, &image, 1, 2));
+    tell("block start", reidhintsje::flood_fill_block_start(&mut receiver, &image, 0, 2));
+    tell("block data", reidhintsje::flood_fill_block_data(&mut receiver, &image, 0, 0, 0x0403_0201));
+    tell("block data", reidhintsje::flood_fill_block_data(&mut receiver, &image, 0, 0, 0x0403_0201));
+    let end = tell("block end", reidhintsje::flood_fill_block_end(&mut receiver, &mut image, 0));
+    println!("missing {}, the lowest {}", end.items(), end.place());
+    tell("block data", reidhintsje::flood_fill_block_data(&mut receiver, &image, 0, 1, 0x0807_0605));
+    tell("block end", reidhintsje::flood_fill_block_end(&mut receiver, &mut image, 0));
+    tell("block start", reidhintsje::flood_fill_block_start(&mut receiver, &image, 1, 1));
+    tell("block data", reidhintsje::flood_fill_block_data(&mut receiver, &image, 1, 0, 0x0c0b_0a09));
+    tell("block end", reidhintsje::flood_fill_block_end(&mut receiver, &mut image, 1));
+    tell("block end", reidhintsje::flood_fill_block_end(&mut receiver, &mut image, 1));
+    show("image", &image);
 }

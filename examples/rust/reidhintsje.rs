@@ -27,11 +27,29 @@ mod linked {
         pub fn reidhintsje_pack_aplx(
             plan: *const u8, plan_length: usize, output: *mut u8, output_length: usize, outcome: *mut u64,
         ) -> u32;
+        pub fn reidhintsje_flood_fill_start(
+            receiver: *mut u8, image: *const u8, image_length: usize, last_block: u32, block_size: u32,
+            outcome: *mut u64,
+        ) -> u32;
+        pub fn reidhintsje_flood_fill_block_start(
+            receiver: *mut u8, image: *const u8, image_length: usize, block: u32, size: u32, outcome: *mut u64,
+        ) -> u32;
+        pub fn reidhintsje_flood_fill_block_data(
+            receiver: *mut u8, image: *const u8, image_length: usize, block: u32, word_id: u32, word: u32,
+            outcome: *mut u64,
+        ) -> u32;
+        pub fn reidhintsje_flood_fill_block_end(
+            receiver: *mut u8, image: *mut u8, image_length: usize, block: u32, outcome: *mut u64,
+        ) -> u32;
     }
 }
 
 pub const MAP_BYTES: usize = 132;
 pub const SCP_OUTPUT_BYTES: usize = 272;
+pub const RECEIVER_BYTES: usize = 1544;
+
+/// A flood-fill receiver; all zeros is the empty one.
+pub type Receiver = [u8; RECEIVER_BYTES];
 
 /// Rights of a region; add up those that are given.
 pub const MAY_READ: u32 = 1;
@@ -50,6 +68,10 @@ pub enum Event {
     Silent,
     Read,
     Packed,
+    Accepted,
+    Ignored,
+    Missing,
+    Done,
 }
 
 /// What code a run enters.
@@ -89,6 +111,7 @@ impl Outcome {
         self.numbers[0] as u32
     }
 
+    /// Where it was; of missing words, the lowest.
     pub fn place(&self) -> u64 {
         self.numbers[1]
     }
@@ -104,6 +127,10 @@ impl Outcome {
             6 => Event::Silent,
             7 => Event::Read,
             8 => Event::Packed,
+            9 => Event::Accepted,
+            10 => Event::Ignored,
+            11 => Event::Missing,
+            12 => Event::Done,
             other => unreachable!("event {other}"),
         }
     }
@@ -126,6 +153,7 @@ impl Outcome {
         self.numbers[5] as u32
     }
 
+    /// How many entries, blocks or pieces; or missing words.
     pub fn items(&self) -> u64 {
         self.numbers[6]
     }
@@ -191,4 +219,36 @@ pub fn pack_aplx(plan: &[u8], output: &mut [u8]) -> Outcome {
     call(|outcome| unsafe {
         linked::reidhintsje_pack_aplx(plan.as_ptr(), plan.len(), output.as_mut_ptr(), output.len(), outcome)
     })
+}
+
+/// Start: the number of blocks less 1, and the full size of a block in words. Begins afresh.
+pub fn flood_fill_start(receiver: &mut Receiver, image: &[u8], last_block: u32, block_size: u32) -> Outcome {
+    let at = receiver.as_mut_ptr();
+    call(|outcome| unsafe {
+        linked::reidhintsje_flood_fill_start(at, image.as_ptr(), image.len(), last_block, block_size, outcome)
+    })
+}
+
+/// Block Start: opens a block of so many words.
+pub fn flood_fill_block_start(receiver: &mut Receiver, image: &[u8], block: u32, size: u32) -> Outcome {
+    let at = receiver.as_mut_ptr();
+    call(|outcome| unsafe {
+        linked::reidhintsje_flood_fill_block_start(at, image.as_ptr(), image.len(), block, size, outcome)
+    })
+}
+
+/// Block Data: a word of a block.
+pub fn flood_fill_block_data(
+    receiver: &mut Receiver, image: &[u8], block: u32, word_id: u32, word: u32,
+) -> Outcome {
+    let at = receiver.as_mut_ptr();
+    call(|outcome| unsafe {
+        linked::reidhintsje_flood_fill_block_data(at, image.as_ptr(), image.len(), block, word_id, word, outcome)
+    })
+}
+
+/// Block End: the words of a complete block go into the image.
+pub fn flood_fill_block_end(receiver: &mut Receiver, image: &mut [u8], block: u32) -> Outcome {
+    let (at, image_at, length) = (receiver.as_mut_ptr(), image.as_mut_ptr(), image.len());
+    call(|outcome| unsafe { linked::reidhintsje_flood_fill_block_end(at, image_at, length, block, outcome) })
 }

@@ -4,12 +4,11 @@ use mathlib.Core.Bool.{Bool, not, _&&_}
 use mathlib.Core.List.{List}
 use Prim.Native.Nat.{ℕ}
 use native.Mathlib.Omega.{arith}
-use lib.Dec.{ltb}
 use lib.ListN.{take}
 use borrow.Author.Tests.{le-ltb}
 use Rattle.words.specs.Choice.{if_then_else_}
 use Rattle.flood_fill.specs.declared.receiver.Receiver.{Receiver}
-use Rattle.flood_fill.specs.Refusals.{isOpen, openSize}
+use Rattle.flood_fill.specs.Refusals.{isWanted}
 use Rattle.flood_fill.specs.Answer.{accepted, ignored}
 use Rattle.flood_fill.specs.Receive.{isDone, isMarked, missingIn, result, opening, keeping, blockStarted, dataCame, completed, blockEnded}
 
@@ -19,7 +18,7 @@ module _ (r : Receiver) (image : List ℕ) where
   unfolding blockStarted
   block-started b n e = rw e
 
-  pub data-came : (b w v : ℕ) {o m : Bool} → (isOpen (r .header .opened) b && ltb w (openSize (r .header .opened))) ≡ o → isMarked r w ≡ m
+  pub data-came : (b w v : ℕ) {o m : Bool} → isWanted (r .header .opened) b w ≡ o → isMarked r w ≡ m
       → dataCame r image b w v ≡ if o && not m then result (keeping r w v) image accepted else result r image ignored
   unfolding dataCame
   data-came b w v e f = rw (e, f)

@@ -15,12 +15,14 @@ use Rattle.flood_fill.specs.declared.receiver.Receiver.{Receiver}
 use Rattle.flood_fill.specs.Limits.{withinLimits, rightSize}
 use Rattle.flood_fill.specs.Refusals.{testStart, testBlockStart, testBlockEnd, tested}
 use Rattle.flood_fill.specs.Answer.{Answer, refused, accepted, ignored, missing, done}
-use Rattle.flood_fill.specs.Receive.{headed, afresh, empty, missingIn, lowestIn, wordBytes, result, opening, blockStarted, dataCame, completed, blockEnded, receive}
+use Rattle.flood_fill.specs.Receive.{headed, afresh, empty, missingIn, lowestIn, wordBytes, result, opening, completing, blockStarted, dataCame, completed, blockEnded, receive}
 
 -- ---- limits
 record Limits : Type 0 where
   pub most-words : withinLimits 32 256 ≡ true
   pub words-over : withinLimits 33 256 ≡ false
+  -- 8,194 words, the least number over 8,192 that blocks can have
+  pub two-over : withinLimits 34 241 ≡ false
   pub most-blocks : withinLimits 256 32 ≡ true
   pub blocks-over : withinLimits 257 1 ≡ false
   pub size-over : withinLimits 1 257 ≡ false
@@ -37,6 +39,7 @@ limits : Limits
 limits = record {
   most-words = refl;
   words-over = refl;
+  two-over = refl;
   most-blocks = refl;
   blocks-over = refl;
   size-over = refl;
@@ -53,7 +56,7 @@ limits = record {
 record Refusals : Type 0 where
   pub short-start : tested (headed 0 0 Nothing) (Start 1 2) 15 ≡ Refused 24
   pub long-enough : tested (headed 0 0 Nothing) (Start 1 2) 16 ≡ Passed
-  -- by its own numbers, and not by those of the Start before; 24 comes before 25, also for numbers that no product of words holds
+  -- by its own numbers, and not by those of the Start before; 24 comes before 25, also for numbers whose product no word holds
   pub own-numbers : tested (headed 2 2 Nothing) (Start 0 1) 4 ≡ Passed
   pub short-first : tested (headed 0 0 Nothing) (Start 256 1) 1027 ≡ Refused 24
   pub outside : tested (headed 0 0 Nothing) (Start 256 1) 1028 ≡ Refused 25
@@ -114,8 +117,8 @@ tell r image (m ∷ ms) =
 record Series : Type 0 where
   -- a refused message changes nothing, and names no place
   pub unchanged : receive (afresh 2 2) zeros (BlockEnd 0) ≡ result (afresh 2 2) zeros (refused 29 0)
-  -- a Start begins afresh, also with a block open, and leaves the image
-  pub begins : receive (opening (afresh 2 2) 1 1) (replicate 16 7) (Start 3 1) ≡ result (afresh 4 1) (replicate 16 7) accepted
+  -- a Start begins afresh, also with a block done and another open, and leaves the image
+  pub begins : receive (opening (completing (afresh 2 2) 0) 1 1) (replicate 16 7) (Start 3 1) ≡ result (afresh 4 1) (replicate 16 7) accepted
   -- a word again, one past the size and one of another block are ignored; an incomplete end names what is missing and leaves the block open
   pub one-block :
       tell (afresh 2 2) zeros
@@ -137,9 +140,9 @@ record Series : Type 0 where
   -- another block's Block Start drops the open one, and its words with it
   pub dropped :
       tell (afresh 2 2) zeros
-      (BlockStart 0 2 ∷ BlockData 0 0 5 ∷ BlockStart 1 1 ∷ BlockEnd 0 ∷ BlockData 1 0 7 ∷ BlockEnd 1 ∷ BlockStart 0 2 ∷ BlockEnd 0 ∷ [])
+      (BlockStart 0 2 ∷ BlockData 0 0 5 ∷ BlockEnd 0 ∷ BlockStart 1 1 ∷ BlockEnd 0 ∷ BlockData 1 0 7 ∷ BlockEnd 1 ∷ BlockStart 0 2 ∷ BlockEnd 0 ∷ [])
       ≡ record {
-        answers = accepted ∷ accepted ∷ accepted ∷ refused 29 0 ∷ accepted ∷ done ∷ accepted ∷ missing 2 0 ∷ [];
+        answers = accepted ∷ accepted ∷ missing 1 1 ∷ accepted ∷ refused 29 0 ∷ accepted ∷ done ∷ accepted ∷ missing 2 0 ∷ [];
         image = 0 ∷ 0 ∷ 0 ∷ 0 ∷ 0 ∷ 0 ∷ 0 ∷ 0 ∷ 7 ∷ 0 ∷ 0 ∷ 0 ∷ 0 ∷ 0 ∷ 0 ∷ 0 ∷ [];
       }
 

@@ -5,7 +5,7 @@ use mathlib.Core.Path.{_≡_}
 use mathlib.Core.Bool.{Bool, true, false, not, _&&_}
 use mathlib.Core.List.{List, [], _∷_, _++_}
 use Prim.Native.Nat.{ℕ, suc, _*_}
-use lib.Dec.{ltb, eqb}
+use lib.Dec.{ltb}
 use lib.ListN.{length, take, getD, set, replicate}
 use Rattle.words.specs.Choice.{if_then_else_}
 use Rattle.words.specs.Bytes.{littleEndian}
@@ -19,7 +19,7 @@ use Rattle.flood_fill.specs.declared.test.Tested.{Tested}
 use Rattle.flood_fill.specs.declared.test.Tested.the-variants.{Refused, Passed}
 use Rattle.flood_fill.specs.declared.receiver.Receiver.{Receiver}
 use Rattle.flood_fill.specs.declared.receiver.Received.{Received}
-use Rattle.flood_fill.specs.Refusals.{isOpen, openSize, tested}
+use Rattle.flood_fill.specs.Refusals.{openSize, isWanted, tested}
 use Rattle.flood_fill.specs.Answer.{Answer, refused, accepted, ignored, missing, done, answerIs}
 
 -- ---- the state
@@ -77,7 +77,7 @@ result r image a = record { receiver = r; image = image; answer = a }
 abbrev pub started : List ℕ → ℕ → ℕ → Result
 started image last n = result (afresh (suc last) n) image accepted
 
--- "Block Start opens a block and begins with 256 empty word marks"
+-- "Block Start opens a block and begins with 256 empty word marks": the receiver with block b of n words open
 abbrev pub opening : Receiver → ℕ → ℕ → Receiver
 opening r b n =
     record {
@@ -91,7 +91,7 @@ opening r b n =
 unfoldable pub blockStarted : Receiver → List ℕ → ℕ → ℕ → Result
 blockStarted r image b n = if isDone r b then result r image ignored else result (opening r b n) image accepted
 
--- "Data is kept if the block is open, the word ID is below its size and the mark is empty; otherwise ignored."
+-- the receiver with word w kept and marked
 abbrev pub keeping : Receiver → ℕ → ℕ → Receiver
 keeping r w v =
     record {
@@ -101,13 +101,13 @@ keeping r w v =
       words = set (r .words) w v;
     }
 
+-- "Data is kept if the block is open, the word ID is below its size and the mark is empty; otherwise ignored."
 unfoldable pub dataCame : Receiver → List ℕ → ℕ → ℕ → ℕ → Result
 dataCame r image b w v =
-    if isOpen (r .header .opened) b && ltb w (openSize (r .header .opened)) && not (isMarked r w) then result (keeping r w v) image accepted
+    if isWanted (r .header .opened) b w && not (isMarked r w) then result (keeping r w v) image accepted
     else result r image ignored
 
--- "otherwise the words go, Little Endian, to the lent image at block ID times the full block size, in words, and the block is done": the
--- first n words of block b. From an empty receiver they always fit (`always-fits` of the crate flood_fill_series)
+-- the receiver with block b done, and none open
 abbrev pub completing : Receiver → ℕ → Receiver
 completing r b =
     record {
@@ -117,6 +117,8 @@ completing r b =
       words = r .words;
     }
 
+-- "otherwise the words go, Little Endian, to the lent image at block ID times the full block size, in words, and the block is done": the
+-- first n words that were kept. From an empty receiver they always fit (`always-fits` of the crate flood_fill_series)
 unfoldable pub completed : Receiver → List ℕ → ℕ → ℕ → Result
 completed r image b n =
     result (completing r b) (storeIfFits image (4 * (b * r .header .size)) (wordBytes (take n (r .words)))) done
@@ -146,6 +148,6 @@ receive r image m = resultAt (tested (r .header) m (length image)) r image m
 abbrev pub resultIs : Received → List ℕ → Result
 resultIs x image = result (x .receiver) image (answerIs (x .answer))
 
--- it leaves every image as it is, and does what `f` says with it
+-- a message that writes no image: its result is the same with every image, which stays as it is
 abbrev pub WithAnyImage : Received → (List ℕ → Result) → Type 0
 WithAnyImage x f = (image : List ℕ) → resultIs x image ≡ f image

@@ -1,6 +1,6 @@
 -- The tests of a message (paper 02, C-14): "Tested before all that, in this order, refused with 24 to 29 and changing nothing".
 pub mod Laws
-use mathlib.Core.Bool.{Bool, true, false}
+use mathlib.Core.Bool.{Bool, true, false, _&&_}
 use Prim.Native.Nat.{ℕ, suc, _*_}
 use lib.Dec.{ltb, leb, eqb}
 use Rattle.words.specs.Choice.{if_then_else_}
@@ -23,6 +23,10 @@ isOpen (Block k n) b = eqb k b
 abbrev pub openSize : Opened → ℕ
 openSize Nothing = 0
 openSize (Block k n) = n
+
+-- "the block is open, the word ID is below its size"
+abbrev pub isWanted : Opened → ℕ → ℕ → Bool
+isWanted o b w = isOpen o b && ltb w (openSize o)
 
 -- ---- 24: "any message with an image shorter than four bytes per declared word (a Start by its own numbers; before any, none)"
 -- the count of blocks is 0 before any Start

@@ -6,6 +6,7 @@ ghost use Prim.Native.Nat.{ℕ, _≤_, min};
 ghost use lib.ListN.{length, set};
 ghost use Rattle.flood_fill.specs.declared.test.Tested.the-variants as tests;
 ghost use Rattle.flood_fill.specs.Refusals.{openSize, testBlockStart, tested};
+ghost use Rattle.flood_fill.specs.Answer.{refused, answerIs};
 ghost use Rattle.flood_fill.specs.Receive.{afresh, empty, blockStarted, dataCame, completed, blockEnded, performed, receive, resultIs, WithAnyImage};
 use crate::flags::is_set;
 use crate::flags::lowest;
@@ -41,6 +42,13 @@ pub enum Answer {
 pub struct Received {
     pub receiver: Receiver,
     pub answer: Answer,
+}
+
+// A refusal names no place.
+pub fn refusal(number: u32) -> Answer
+    ensures { λ r. ⌜ answerIs r ≡ refused number 0 ⌝ }
+{
+    Answer::Refused(Refusal { number, place: 0 })
 }
 
 // A size, but for what is over 256.
@@ -220,7 +228,7 @@ impl Receiver {
         match test(header, message, image.len()) {
             Tested::Refused(number) => Received {
                 receiver: self,
-                answer: Answer::Refused(Refusal { number, place: 0 }),
+                answer: refusal(number),
             },
             Tested::Passed => self.perform(message, image),
         }

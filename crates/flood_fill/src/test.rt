@@ -1,10 +1,8 @@
 // The tests of a message. A message that fails one is refused, and changes nothing.
 ghost use mathlib.Core.Path.{_≡_};
-ghost use mathlib.Core.Bool.{_&&_};
 ghost use Prim.Native.Nat.{suc, _*_};
-ghost use lib.Dec.{ltb};
 ghost use Rattle.flood_fill.specs.Limits.{withinLimits, rightSize};
-ghost use Rattle.flood_fill.specs.Refusals.{isOpen, openSize, declaredWords, testStart, testBlockStart, testBlockEnd, tested};
+ghost use Rattle.flood_fill.specs.Refusals.{isOpen, isWanted, declaredWords, testStart, testBlockStart, testBlockEnd, tested};
 use crate::header::Header;
 use crate::header::Opened;
 use crate::message::Message;
@@ -74,7 +72,7 @@ pub fn is_open(opened: Opened, block: u32) -> bool
 
 // Whether a word is one of the open block's.
 pub fn is_wanted(opened: Opened, block: u32, word_id: u32) -> bool
-    ensures { λ r. ⌜ r ≡ (isOpen opened block && ltb «word_id» (openSize opened)) ⌝ }
+    ensures { λ r. ⌜ r ≡ isWanted opened block «word_id» ⌝ }
 {
     match opened {
         Opened::Nothing => false,

@@ -1,6 +1,6 @@
 -- A flood-fill receiver as 1,544 bytes that the caller lends, and what a message leaves of them. Numbers are Little Endian. From offset 0 on:
--- the count of blocks, the full size of a block, the ID of the open block and its own size, 2 bytes each; from 8 on 256 bytes, one for each
--- block that may be done; from 264 on 256 bytes, one for each word that may have come; from 520 on the 256 words of the open block.
+-- the count of blocks, the full size of a block, the ID of the open block and its own size, 2 bytes each; from 8 on a byte for each of
+-- 256 blocks, done unless 0; from 264 on a byte for each of 256 words of the open block, come unless 0; from 520 on these words.
 pub mod Flags
 pub mod Words
 pub mod Cases

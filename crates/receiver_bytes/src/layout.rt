@@ -1,7 +1,7 @@
 // Where the parts of a receiver stand in its bytes. Numbers are Little Endian.
 
 // All bytes.
-pub(crate) const RECEIVER: usize = 1544;
+pub const RECEIVER: usize = 1544;
 
 // The number of blocks, the full size of a block, the ID of the open block, and its own size: two bytes each.
 pub(crate) const COUNT: usize = 0;

@@ -1,5 +1,5 @@
 // A flood-fill receiver as 1,544 bytes that the caller lends: a message changes them where they stand.
-mod layout; // where the parts stand
+pub mod layout; // where the parts stand
 mod flags; // flags, a byte each
 mod read; // what the bytes say
 mod write; // what a message that is done changes

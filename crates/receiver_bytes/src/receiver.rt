@@ -17,10 +17,10 @@ use crate::write::keep;
 use crate::write::open;
 use flood_fill::message::Message;
 use flood_fill::receiver::Answer;
+use flood_fill::receiver::refusal;
 use flood_fill::test::Tested;
 use flood_fill::test::is_wanted;
 use flood_fill::test::test;
-use outcome::answer::Refusal;
 
 // Begins afresh. The image is not written.
 pub fn start(bytes: &mut [u8; RECEIVER], image: &[u8], last_block: u32, size: u32) -> Answer
@@ -29,7 +29,7 @@ pub fn start(bytes: &mut [u8; RECEIVER], image: &[u8], last_block: u32, size: u3
 {
     let header = header_of(bytes);
     match test(header, Message::Start { last_block, size }, image.len()) {
-        Tested::Refused(number) => Answer::Refused(Refusal { number, place: 0 }),
+        Tested::Refused(number) => refusal(number),
         Tested::Passed => {
             begin(bytes, last_block as u16, size as u16);
             Answer::Accepted
@@ -44,7 +44,7 @@ pub fn block_start(bytes: &mut [u8; RECEIVER], image: &[u8], block: u32, size: u
 {
     let header = header_of(bytes);
     match test(header, Message::BlockStart { block, size }, image.len()) {
-        Tested::Refused(number) => Answer::Refused(Refusal { number, place: 0 }),
+        Tested::Refused(number) => refusal(number),
         Tested::Passed => {
             if is_done(bytes, block) {
                 return Answer::Ignored;
@@ -76,7 +76,7 @@ pub fn block_data(
         },
         image.len(),
     ) {
-        Tested::Refused(number) => Answer::Refused(Refusal { number, place: 0 }),
+        Tested::Refused(number) => refusal(number),
         Tested::Passed => {
             let opened = header.opened;
             if !is_wanted(opened, block, word_id) {
@@ -99,7 +99,7 @@ pub fn block_end(bytes: &mut [u8; RECEIVER], image: &mut [u8], block: u32) -> An
 {
     let header = header_of(bytes);
     match test(header, Message::BlockEnd { block }, image.len()) {
-        Tested::Refused(number) => Answer::Refused(Refusal { number, place: 0 }),
+        Tested::Refused(number) => refusal(number),
         Tested::Passed => {
             let opened = header.opened;
             let used = open_words(opened);

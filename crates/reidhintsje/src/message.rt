@@ -5,11 +5,12 @@ ghost use Rattle.outcome_numbers.specs.Numbers.{first};
 ghost use Rattle.reidhintsje.specs.Calls.{messageCall};
 use outcome_numbers::numbers::message_parts;
 use outcome_numbers::numbers::put;
+use receiver_bytes::layout::RECEIVER;
 
 // Start: the number of blocks less 1, and the full size of a block.
 #[no_mangle]
 pub extern "C" fn reidhintsje_flood_fill_start(
-    receiver: &mut [u8; 1544],
+    receiver: &mut [u8; RECEIVER],
     image: &[u8],
     last_block: u32,
     block_size: u32,
@@ -26,7 +27,7 @@ pub extern "C" fn reidhintsje_flood_fill_start(
 // Block Start: a block, and its own size.
 #[no_mangle]
 pub extern "C" fn reidhintsje_flood_fill_block_start(
-    receiver: &mut [u8; 1544],
+    receiver: &mut [u8; RECEIVER],
     image: &[u8],
     block: u32,
     size: u32,
@@ -43,7 +44,7 @@ pub extern "C" fn reidhintsje_flood_fill_block_start(
 // Block Data: a word of a block.
 #[no_mangle]
 pub extern "C" fn reidhintsje_flood_fill_block_data(
-    receiver: &mut [u8; 1544],
+    receiver: &mut [u8; RECEIVER],
     image: &[u8],
     block: u32,
     word_id: u32,
@@ -61,7 +62,7 @@ pub extern "C" fn reidhintsje_flood_fill_block_data(
 // Block End: the words of a complete block go into the image.
 #[no_mangle]
 pub extern "C" fn reidhintsje_flood_fill_block_end(
-    receiver: &mut [u8; 1544],
+    receiver: &mut [u8; RECEIVER],
     image: &mut [u8],
     block: u32,
     outcome: &mut [u64; 8],

@@ -1,4 +1,4 @@
--- Messages on the bytes of a receiver are the request's messages on the receiver that they are: what a message leaves of the bytes is the
+-- Messages to the bytes of a receiver are messages to the receiver that they are (`receive`): what a message leaves of the bytes is the
 -- receiver that it leaves, in 1,544 bytes again. All zeros are the empty receiver.
 use mathlib.Core.Path.{_≡_, refl}
 use mathlib.Core.Bool.{Bool, true, false, not, _&&_}
@@ -109,7 +109,7 @@ module _ (s image : List ℕ) (are : ReceiverBytes s) (m : Message) (h : WordFit
   unfolding receiveBytes
   bytes-left = agrees s image are m h .after
 
--- the image and the answer are the request's for any bytes
+-- the image and the answer are those of `receive`, for any bytes
 module _ (s image : List ℕ) (m : Message) where
   pub image-left : receiveBytes s image m .image ≡ receive (receiverIn s) image m .image
   unfolding receiveBytes

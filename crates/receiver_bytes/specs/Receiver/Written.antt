@@ -1,4 +1,4 @@
--- What the bytes are after a message that was done: the receiver that the request asks for, in 1,544 bytes again.
+-- What the bytes are after a message that was done: the receiver that it leaves, in 1,544 bytes again.
 use mathlib.Core.Path.{_≡_, refl, ap, sym, _∙_}
 use mathlib.Core.Bool.{Bool, true, false}
 use mathlib.Core.List.{List, [], _∷_, _++_}

@@ -17,6 +17,9 @@ test-requires c κs = search needs
 enum-known-number : tie.Need-enum-known-number
 enum-known-number c = search needs
 
+refusal-requires : tie.Need-refusal-requires
+refusal-requires c κs = search needs
+
 enum-told : tie.Need-enum-told
 enum-told c = search needs
 
@@ -47,10 +50,10 @@ keep-requires c κs = let x = c .before .before .before .before .before .before 
     unmarked-below (x .bytes .now) (x .word-id) (sym (c .before .before .is-marked .ensures) ∙ c .before .if2 .left)
 
 returns-3 : tie.Need-returns-3
-returns-3 c = let t = c .before .before .before in
+returns-3 c = let t = c .before .before .before .before in
     let x = t .before .before .before .before .before .args in
-    rw (when-refused (x .bytes .now) (x .image .now) (BlockData (x .block) (x .word-id) (x .word)) (t .before .header-of .ensures) (t .test .ensures) (c .before .number .given .0 .0) (c .before .number .given .1))
-    (refl, refl)
+    rw (when-refused (x .bytes .now) (x .image .now) (BlockData (x .block) (x .word-id) (x .word)) (t .before .header-of .ensures) (t .test .ensures) (c .before .before .number .given .0 .0) (c .before .before .number .given .1))
+    (c .refusal .ensures, refl)
 
 returns-4 : tie.Need-returns-4
 unfolding written
@@ -70,6 +73,7 @@ block-data-spec =
     header-of-requires
     test-requires
     enum-known-number
+    refusal-requires
     enum-told
     is-wanted-requires
     returns

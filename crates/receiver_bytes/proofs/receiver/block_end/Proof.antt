@@ -25,6 +25,9 @@ test-requires c κs = search needs
 enum-known-number : tie.Need-enum-known-number
 enum-known-number c = search needs
 
+refusal-requires : tie.Need-refusal-requires
+refusal-requires c κs = search needs
+
 enum-told : tie.Need-enum-told
 enum-told c = search needs
 
@@ -66,10 +69,10 @@ close-requires : tie.Need-close-requires
 close-requires c κs = search needs
 
 returns-2 : tie.Need-returns-2
-returns-2 c = let t = c .before .before .before in
+returns-2 c = let t = c .before .before .before .before in
     let x = t .before .before .before .before .before .args in
-    rw (when-refused (x .bytes .now) (x .image .now) (BlockEnd (x .block)) (t .before .header-of .ensures) (t .test .ensures) (c .before .number .given .0 .0) (c .before .number .given .1))
-    (refl, (refl, refl))
+    rw (when-refused (x .bytes .now) (x .image .now) (BlockEnd (x .block)) (t .before .header-of .ensures) (t .test .ensures) (c .before .before .number .given .0 .0) (c .before .before .number .given .1))
+    (c .refusal .ensures, (refl, refl))
 
 same-length : tie.Need-same-length
 same-length c = search needs
@@ -95,6 +98,7 @@ block-end-spec =
     header-of-requires
     test-requires
     enum-known-number
+    refusal-requires
     enum-told
     open-words-requires
     missing-words-requires

@@ -25,6 +25,9 @@ test-requires c κs = search needs
 enum-known-number : tie.Need-enum-known-number
 enum-known-number c = search needs
 
+refusal-requires : tie.Need-refusal-requires
+refusal-requires c κs = search needs
+
 enum-told : tie.Need-enum-told
 enum-told c = search needs
 
@@ -47,10 +50,10 @@ open-requires : tie.Need-open-requires
 open-requires c κs = search needs
 
 returns-2 : tie.Need-returns-2
-returns-2 c = let t = c .before .before .before in
+returns-2 c = let t = c .before .before .before .before in
     let x = t .before .before .before .before .before .args in
-    rw (when-refused (x .bytes .now) (x .image .now) (BlockStart (x .block) (x .size)) (t .before .header-of .ensures) (t .test .ensures) (c .before .number .given .0 .0) (c .before .number .given .1))
-    (refl, refl)
+    rw (when-refused (x .bytes .now) (x .image .now) (BlockStart (x .block) (x .size)) (t .before .header-of .ensures) (t .test .ensures) (c .before .before .number .given .0 .0) (c .before .before .number .given .1))
+    (c .refusal .ensures, refl)
 
 returns-3 : tie.Need-returns-3
 returns-3 c = let i = c .before .before in
@@ -66,6 +69,7 @@ block-start-spec =
     header-of-requires
     test-requires
     enum-known-number
+    refusal-requires
     enum-told
     is-done-requires
     returns

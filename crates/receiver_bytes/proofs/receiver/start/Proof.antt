@@ -27,6 +27,9 @@ test-requires c κs = search needs
 enum-known-number : tie.Need-enum-known-number
 enum-known-number c = search needs
 
+refusal-requires : tie.Need-refusal-requires
+refusal-requires c κs = search needs
+
 enum-told : tie.Need-enum-told
 enum-told c = search needs
 
@@ -40,10 +43,10 @@ begin-requires : tie.Need-begin-requires
 begin-requires c κs = let l = limits c in omega arith
 
 returns : tie.Need-returns
-returns c = let t = c .before .before .before in
+returns c = let t = c .before .before .before .before in
     let x = t .before .before .before .before .before .args in
-    rw (when-refused (x .bytes .now) (x .image .now) (Start (x .last-block) (x .size)) (t .before .header-of .ensures) (t .test .ensures) (c .before .number .given .0 .0) (c .before .number .given .1))
-    (refl, refl)
+    rw (when-refused (x .bytes .now) (x .image .now) (Start (x .last-block) (x .size)) (t .before .header-of .ensures) (t .test .ensures) (c .before .before .number .given .0 .0) (c .before .before .number .given .1))
+    (c .refusal .ensures, refl)
 
 returns-2 : tie.Need-returns-2
 returns-2 c = let t = c .before .before .before .before in
@@ -58,6 +61,7 @@ start-spec =
     header-of-requires
     test-requires
     enum-known-number
+    refusal-requires
     enum-told
     cast-begin
     cast-begin-2

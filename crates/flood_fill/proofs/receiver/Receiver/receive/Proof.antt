@@ -11,6 +11,9 @@ test-requires c κs = search needs
 enum-known-number : tie.Need-enum-known-number
 enum-known-number c = search needs
 
+refusal-requires : tie.Need-refusal-requires
+refusal-requires c κs = search needs
+
 enum-told : tie.Need-enum-told
 enum-told c = search needs
 
@@ -19,7 +22,7 @@ perform-requires c κs = sym (c .before .before .before .test .ensures) ∙ c .b
 
 returns : tie.Need-returns
 unfolding receive
-returns c = simp (sym (c .before .before .before .test .ensures) ∙ c .before .number .given .1)
+returns c = simp (sym (c .before .before .before .before .test .ensures) ∙ c .before .before .number .given .1, c .refusal .ensures)
 
 same-length : tie.Need-same-length
 same-length c = search needs
@@ -34,6 +37,7 @@ receive-spec =
     (tie.spec
     test-requires
     enum-known-number
+    refusal-requires
     enum-told
     perform-requires
     returns
