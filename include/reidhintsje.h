@@ -63,12 +63,12 @@ extern "C" {
 #define REIDHINTSJE_END 1      /* a load came to its end */
 #define REIDHINTSJE_UNKNOWN 2  /* a load stopped at an unknown command word */
 #define REIDHINTSJE_RUN 3      /* a load, also one that a packet asked for, stopped at a run; RESUME says where the next load goes on */
-#define REIDHINTSJE_START 4    /* a packet asks for a run; there is no resume */
+#define REIDHINTSJE_START 4    /* a packet asks for a run (no flood-fill Start); there is no resume */
 #define REIDHINTSJE_RESPONSE 5 /* a packet was answered; the response stands at the output's front */
 #define REIDHINTSJE_SILENT 6   /* a packet gets no response, and nothing was done */
 #define REIDHINTSJE_READ 7     /* a plan was read */
 #define REIDHINTSJE_PACKED 8   /* a plan was packed; the image stands at the output's front */
-#define REIDHINTSJE_ACCEPTED 9 /* a flood-fill message was done: it began an image, opened a block, or its word was kept */
+#define REIDHINTSJE_ACCEPTED 9 /* a flood-fill message did what it asks: it began an image, opened a block, or its word was kept */
 #define REIDHINTSJE_IGNORED 10 /* a flood-fill message changed nothing, and that is no error */
 #define REIDHINTSJE_MISSING 11 /* a Block End whose block lacks words: ITEMS says how many, PLACE the lowest; the block stays open */
 #define REIDHINTSJE_DONE 12    /* a Block End whose block is complete: its words stand in the image */
@@ -140,37 +140,40 @@ uint32_t reidhintsje_pack_aplx(const uint8_t *plan, size_t plan_length, uint8_t 
 
 /* ---- flood fill: ACCEPTED, IGNORED, MISSING or DONE
  * An image is passed along in blocks of words, by four messages, each a call. Messages come taken apart; those with a bad checksum are
- * already dropped. They may be lost, come twice and in any order: send all blocks that are not done again, each as a Block Start, all its
- * words and a Block End, until every block is done; the image is then whole.
- * The caller keeps two buffers from message to message, and nobody else writes them: the receiver, and the image that is received.
+ * already dropped, and no CRC is tested. The caller keeps two buffers from message to message, and nobody else writes them: the receiver,
+ * and the image that is received.
+ * Messages may be lost, come twice and in any order. Once a Start was accepted and all messages since then are one image's, the image is
+ * whole as soon as every block is done. What is left is made good by sending each block that is not done again: its Block Start, only
+ * data with all its words, its Block End.
  *
  * A receiver is 1544 bytes; all zeros is the empty one, which no Start has reached.
- *      0   2 bytes     the number of blocks that the last Start declared; 0 before any
+ *      0   2 bytes     the number of blocks that the last accepted Start declared; 0 before any
  *      2   2 bytes     the full size of a block, in words
  *      4   2 bytes     the ID of the open block
  *      6   2 bytes     its own size, in words; 0 if no block is open
  *      8   256 bytes   for each block: done, unless 0
  *    264   256 bytes   for each word of the open block: it came, unless 0
  *    520   1024 bytes  the words of the open block, 4 bytes each, Little Endian as all numbers are
- * Any 1544 bytes are read as a receiver. In those that no calls from an empty one left, a block from ID 256 on counts as done and a word
- * from ID 256 on as come; a Block End looks at the first 256 words at most, and leaves the image as it was where they do not fit.
- * What a call changes: a Start writes all 1544 bytes anew, zeros but for its two numbers. A Block Start that opens a block writes the bytes
- * from 4 to 7 and makes the 256 bytes of the words zero. A word that is kept is written, and its byte becomes 1. A Block End that
- * completes a block makes the bytes from 4 to 7 zero and the block's own byte 1. All else changes no byte.
+ * What a call changes of them: an accepted Start writes all 1544 bytes anew, zeros but for its two numbers. A Block Start that opens a
+ * block writes the bytes from 4 to 7 and makes the 256 bytes of the words zero. A word that is kept is written, and its byte becomes 1. A
+ * Block End that completes a block makes the bytes from 4 to 7 zero and the block's own byte 1. All else changes no byte of the receiver.
+ * Any 1544 bytes are read as a receiver. In those that no calls from an empty one left, a block from ID 256 on counts as done and has no
+ * byte of its own, and a word from ID 256 on counts as come; a Block End looks at the first 256 words at most, and where they do not fit
+ * into the image it is DONE and leaves the image as it was.
  *
  * Every call is refused with 24 where the image has fewer than four bytes for each declared word: those of the Start itself, and for the
- * other messages those of the last Start. Before any Start none is too short. Place 0.
+ * other messages those of the last accepted Start. Before any Start no image is too short. The place of a refusal is 0.
  */
 #define REIDHINTSJE_RECEIVER_BYTES 1544
 
 /* Start: `last_block` is the number of blocks less 1, `block_size` the words of each block; only the last may be shorter. 1 to 256 blocks
- * of 1 to 256 words, 8192 words in all, else 25. Begins afresh: no block is done. The image is not written. Refusals: 24, 25. */
+ * of 1 to 256 words, and at most 8192 words in all, else 25. Begins afresh: no block is done. The image is not written. Refusals: 24, 25. */
 uint32_t reidhintsje_flood_fill_start(uint8_t *receiver, const uint8_t *image, size_t image_length, uint32_t last_block,
                                       uint32_t block_size, uint64_t *outcome);
 
 /* Block Start: opens a block, with no word come; a block that was open is dropped. IGNORED where the block is done: what is open stays
- * open. `size` is the block's own size. Refusals: 24; 26 before any Start; 27 where there is no such block; 28 where the size is 0, or
- * not the full one and, of the last block, not less. */
+ * open. `size` is the block's own size. Refusals: 24; 26 before any Start; 27 where there is no such block; 28 where the size is wrong:
+ * it is the full one, and of the last block also less, but at least 1. */
 uint32_t reidhintsje_flood_fill_block_start(uint8_t *receiver, const uint8_t *image, size_t image_length, uint32_t block, uint32_t size,
                                             uint64_t *outcome);
 

@@ -1,5 +1,5 @@
 #!/usr/bin/env python3
-"""The inputs of the programs plan_to_aplx, plan_to_srom and conversion_cases, and what each must write.
+"""The inputs of the programs plan_to_aplx, plan_to_srom, conversion_cases and flood_fill_cases, and what each must write.
 
 programs.py write: stores them as crates/NAME/stdin, stdout and data/FILE.
 programs.py: fails where a stored file is another, or another file is stored.
@@ -7,6 +7,7 @@ programs.py: fails where a stored file is another, or another file is stored.
 import os
 import sys
 
+import model
 from model import plan_to_aplx, plan_to_srom
 
 here = os.path.dirname(os.path.abspath(__file__))
@@ -68,7 +69,70 @@ def case(name, medium, data):
 
 cases = b''.join(case(name, b'APLX', plan_to_aplx(s)) + case(name, b'SROM', plan_to_srom(s)) for name, s in files.items())
 
+
+# ---- the messages of flood_fill_cases: the kind, how many bytes of the image are lent, and three numbers
+
+class Draw:
+    """Numbers that are the same each time."""
+
+    def __init__(self, seed):
+        self.state = seed
+
+    def below(self, n):
+        self.state = (self.state * 6364136223846793005 + 1442695040888963407) % 2 ** 64
+        return (self.state >> 33) % n
+
+    def shuffled(self, items):
+        return [items.pop(self.below(len(items))) for _ in range(len(items))]
+
+
+def sent(draw, words, size, blocks, lost):
+    """The messages of some blocks of an image, each with its words shuffled, one in `lost` lost and one in 8 sent twice."""
+    for block in blocks:
+        part = words[block * size:(block + 1) * size]
+        data = draw.shuffled([(2, block, k, word) for k, word in enumerate(part)])
+        for message in [(1, block, len(part), 0), *data, (3, block, 0, 0)]:
+            if not lost or draw.below(lost):
+                yield message
+            if not draw.below(8):
+                yield message
+
+
+def series(draw, count, size, last):
+    """An image of so many blocks, passed along three times: with messages lost, with damaged ones between, and whole."""
+    words = [draw.below(2 ** 31) * 2 + 1 for _ in range((count - 1) * size + last)]
+    start = 0, count - 1, size, 0
+    yield start
+    yield from sent(draw, words, size, draw.shuffled(list(range(count))), 6)
+    for message in sent(draw, words, size, draw.shuffled(list(range(count))), 9):
+        yield message
+        if not draw.below(6):
+            yield draw.below(4), draw.below(count + 2), draw.below(size + 2), draw.below(2 ** 31)
+    yield start
+    yield from sent(draw, words, size, draw.shuffled(list(range(count))), 0)
+
+
+draw = Draw(14)
+messages = [(k, 1200, a, b, c) for shape in ((5, 8, 3), (1, 256, 256), (60, 1, 1), (3, 100, 1))
+            for k, a, b, c in series(draw, *shape)]
+# the first one comes before any Start; now and then less of the image is lent
+messages = [(1, 1200, 0, 1, 0)] + [(k, draw.below(1200) if k and not draw.below(40) else lent, a, b, c)
+                                   for k, lent, a, b, c in messages]
+
+image = bytearray(b'\xee' * 1200)
+receiver = model.Receiver()
+told = b''
+for kind, lent, a, b, c in messages:
+    part = memoryview(image)[:lent]
+    answer = (model.flood_fill_start(receiver, part, a, b) if kind == 0 else
+              model.flood_fill_block_start(receiver, part, a, b) if kind == 1 else
+              model.flood_fill_block_data(receiver, part, a, b, c) if kind == 2 else
+              model.flood_fill_block_end(receiver, part, a))
+    told += ' '.join(map(str, answer[:3])).encode() + b'\n'
+
 stored = {
+    'flood_fill_cases/data/messages': b''.join(words(*m) for m in messages),
+    'flood_fill_cases/stdout': told + image,
     'plan_to_aplx/stdin': coefficients,
     'plan_to_aplx/stdout': plan_to_aplx(coefficients),
     'plan_to_srom/stdin': coefficients,

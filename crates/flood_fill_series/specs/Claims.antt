@@ -54,9 +54,9 @@ pub record Held : Type 0 where
 abbrev pub leaves : Step → Held → Message → Held
 leaves f h m = let s = f (h .receiver) (h .image) m in record { receiver = s .receiver; image = s .image }
 
-unfoldable pub run : Step → Held → List Message → Held
-run f h [] = h
-run f h (m ∷ ms) = run f (leaves f h m) ms
+unfoldable pub heldAfter : Step → Held → List Message → Held
+heldAfter f h [] = h
+heldAfter f h (m ∷ ms) = heldAfter f (leaves f h m) ms
 
 -- ======== an image and its messages
 -- an image that is passed along: its words, and the full size of a block
@@ -108,7 +108,8 @@ pub record OnlyData (f : Step) (i : Image) (r : Receiver) (cs : List Call) : Typ
 
 -- ---- 1
 -- "If only accepted data, of one image's words, came since a Block Start that opened its block, the state depends only on the one that
--- Block Start left and on which word IDs of its block came, in whatever order or number": two lists of such data, xs and ys
+-- Block Start left and on which word IDs of its block came, in whatever order or number": two lists of such data, xs and ys. The state is
+-- the receiver; what stands in the image is said by the other two
 abbrev pub OrderFree : Step → Type 0
 OrderFree f =
     (i : Image) (earlier : List Call) (lent : List ℕ) (b n : ℕ) (xs ys : List Call)
@@ -141,11 +142,11 @@ Completes f =
 -- "one such pass" visits block b: somewhere in it stand a Block Start of the block, only data with its every word, and a Block End
 pub record Visited (i : Image) (b : ℕ) (pass : List Message) : Type 0 where
   pub front : List Message
-  pub words : List Message
+  pub middle : List Message
   pub back : List Message
-  pub whole : pass ≡ front ++ (BlockStart b (length (blockOf i b)) ∷ (words ++ (BlockEnd b ∷ back)))
-  pub data-only : All (DataOf i) words
-  pub every-word : EveryWord b (length (blockOf i b)) words
+  pub whole : pass ≡ front ++ (BlockStart b (length (blockOf i b)) ∷ (middle ++ (BlockEnd b ∷ back)))
+  pub data-only : All (DataOf i) middle
+  pub every-word : EveryWord b (length (blockOf i b)) middle
 
 -- "leaves that image whole there": its bytes stand in front of the lent image, which is else as it was
 pub record StandsWhole (i : Image) (lent left : List ℕ) : Type 0 where
@@ -154,15 +155,16 @@ pub record StandsWhole (i : Image) (lent left : List ℕ) : Type 0 where
 
 -- "If all messages from the last accepted Start on are one image's and the lent image, the same each time, is written by nobody else, one
 -- such pass over all blocks not yet done leaves that image whole there." Before the pass came any of the image's messages, in any order and
--- number, with any lost. The pass takes the blocks in any order, and may have more of the image's messages in between
+-- number, with any lost. The pass takes the blocks in any order, and may have more of the image's messages in between. The image's own
+-- Start may come again, before the pass and in it
 abbrev pub LeavesWhole : Step → Type 0
 LeavesWhole f =
     (i : Image) (earlier : List Call) (lent : List ℕ) (last n : ℕ) (before pass : List Message)
     → let s = f (after f empty earlier) lent (Start last n) in
-    let h = run f (record { receiver = s .receiver; image = s .image }) before in
+    let h = heldAfter f (record { receiver = s .receiver; image = s .image }) before in
     NotRefused (s .answer) → OfImage i (Start last n) → All (OfImage i) before → All (OfImage i) pass
     → ((b : ℕ) → b ≤ last → isDone (h .receiver) b ≡ false → Visited i b pass)
-    → StandsWhole i lent (run f h pass .image)
+    → StandsWhole i lent (heldAfter f h pass .image)
 
 -- ---- all three
 pub record Claims (f : Step) : Type 0 where

@@ -10,7 +10,7 @@ use Rattle.flood_fill.specs.declared.message.Message.{Message}
 use Rattle.flood_fill.specs.declared.message.Message.the-variants.{Start}
 use Rattle.flood_fill.specs.declared.receiver.Receiver.{Receiver}
 use Rattle.flood_fill.specs.Receive.{empty, isDone, receive}
-use Rattle.flood_fill_series.specs.Claims.{Call, after, messagesOf, NotRefused, Held, leaves, run, Image, OfImage, Visited, StandsWhole}
+use Rattle.flood_fill_series.specs.Claims.{Call, after, messagesOf, NotRefused, Held, leaves, heldAfter, Image, OfImage, Visited, StandsWhole}
 use Rattle.flood_fill_series.specs.Ours.{ours}
 use Rattle.receiver_bytes.specs.Receiver.{receiverIn, receiveBytes}
 use Rattle.receiver_bytes.specs.Receiver.Written.{ReceiverBytes}
@@ -30,9 +30,9 @@ pub record HeldBytes : Type 0 where
 abbrev pub leavesBytes : HeldBytes → Message → HeldBytes
 leavesBytes h m = let x = receiveBytes (h .bytes) (h .image) m in record { bytes = x .bytes; image = x .image }
 
-unfoldable pub runBytes : HeldBytes → List Message → HeldBytes
-runBytes h [] = h
-runBytes h (m ∷ ms) = runBytes (leavesBytes h m) ms
+unfoldable pub heldBytesAfter : HeldBytes → List Message → HeldBytes
+heldBytesAfter h [] = h
+heldBytesAfter h (m ∷ ms) = heldBytesAfter (leavesBytes h m) ms
 
 abbrev pub heldIn : HeldBytes → Held
 heldIn h = record { receiver = receiverIn (h .bytes); image = h .image }
@@ -55,33 +55,33 @@ after-bytes s are (c ∷ cs) w =
 left-is : (h : HeldBytes) → ReceiverBytes (h .bytes) → (m : Message) → WordFits m → heldIn (leavesBytes h m) ≡ leaves receive (heldIn h) m
 left-is h are m w = rw (receiver-left (h .bytes) (h .image) are m w, image-left (h .bytes) (h .image) m)
 
-pub run-is : (h : HeldBytes) → ReceiverBytes (h .bytes) → (ms : List Message) → All WordFits ms → heldIn (runBytes h ms) ≡ run receive (heldIn h) ms
-unfolding runBytes run
-run-is h are [] w = refl
-run-is h are (m ∷ ms) w =
-    run-is (leavesBytes h m) (bytes-left (h .bytes) (h .image) are m (w .0)) ms (w .1)
-    ∙ ap (λ (x : Held). run receive x ms) (left-is h are m (w .0))
+pub held-is : (h : HeldBytes) → ReceiverBytes (h .bytes) → (ms : List Message) → All WordFits ms → heldIn (heldBytesAfter h ms) ≡ heldAfter receive (heldIn h) ms
+unfolding heldBytesAfter heldAfter
+held-is h are [] w = refl
+held-is h are (m ∷ ms) w =
+    held-is (leavesBytes h m) (bytes-left (h .bytes) (h .image) are m (w .0)) ms (w .1)
+    ∙ ap (λ (x : Held). heldAfter receive x ms) (left-is h are m (w .0))
 
-pub run-bytes : (h : HeldBytes) → ReceiverBytes (h .bytes) → (ms : List Message) → All WordFits ms → ReceiverBytes (runBytes h ms .bytes)
-unfolding runBytes
-run-bytes h are [] w = are
-run-bytes h are (m ∷ ms) w = run-bytes (leavesBytes h m) (bytes-left (h .bytes) (h .image) are m (w .0)) ms (w .1)
+pub held-bytes : (h : HeldBytes) → ReceiverBytes (h .bytes) → (ms : List Message) → All WordFits ms → ReceiverBytes (heldBytesAfter h ms .bytes)
+unfolding heldBytesAfter
+held-bytes h are [] w = are
+held-bytes h are (m ∷ ms) w = held-bytes (leavesBytes h m) (bytes-left (h .bytes) (h .image) are m (w .0)) ms (w .1)
 
 -- ---- "one such pass over all blocks not yet done leaves that image whole there": from 1,544 zeros on, after any earlier calls
 pub whole-in-bytes : (i : Image) (earlier : List Call) (lent : List ℕ) (last n : ℕ) (before pass : List Message)
     → let s = receiveBytes (bytesAfter (replicate 1544 0) earlier) lent (Start last n) in
-    let h = runBytes (record { bytes = s .bytes; image = s .image }) before in
+    let h = heldBytesAfter (record { bytes = s .bytes; image = s .image }) before in
     All WordFits (messagesOf earlier) → All WordFits before → All WordFits pass
     → NotRefused (s .answer) → OfImage i (Start last n) → All (OfImage i) before → All (OfImage i) pass
     → ((b : ℕ) → b ≤ last → isDone (receiverIn (h .bytes)) b ≡ false → Visited i b pass)
-    → StandsWhole i lent (runBytes h pass .image)
+    → StandsWhole i lent (heldBytesAfter h pass .image)
 whole-in-bytes i earlier lent last n before pass we wb wp accepted start of-before of-pass visits =
     let a = bytesAfter (replicate 1544 0) earlier in
     let are = after-bytes (replicate 1544 0) empty-bytes earlier we in
     let s = receiveBytes a lent (Start last n) in
     let k : HeldBytes = record { bytes = s .bytes; image = s .image } in
     let here = bytes-left a lent are (Start last n) tt in
-    let h = runBytes k before in
+    let h = heldBytesAfter k before in
     let begun : receiverIn a ≡ after receive empty earlier =
     after-is (replicate 1544 0) empty-bytes earlier we ∙ ap (λ (r : Receiver). after receive r earlier) empty-is
     in
@@ -92,8 +92,8 @@ whole-in-bytes i earlier lent last n before pass we wb wp accepted start of-befo
     left-is (record { bytes = a; image = lent }) are (Start last n) tt
     ∙ ap (λ (r : Receiver). leaves receive (record { receiver = r; image = lent }) (Start last n)) begun
     in
-    let ran = run-is k here before wb ∙ ap (λ (x : Held). run receive x before) started in
-    let passed = run-is h (run-bytes k here before wb) pass wp ∙ ap (λ (x : Held). run receive x pass) ran in
+    let ran = held-is k here before wb ∙ ap (λ (x : Held). heldAfter receive x before) started in
+    let passed = held-is h (held-bytes k here before wb) pass wp ∙ ap (λ (x : Held). heldAfter receive x pass) ran in
     let whole = ours .leaves-whole i earlier lent last n before pass (rw answered at accepted) start of-before of-pass
     (λ b l e. visits b l (ap (λ (x : Held). isDone (x .receiver) b) ran ∙ e))
     in

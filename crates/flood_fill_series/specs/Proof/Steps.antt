@@ -10,7 +10,7 @@ use Rattle.words.specs.Choice.Laws.{true-is-false}
 use Rattle.words.specs.Store.Laws.{length-store, drop-store}
 use Rattle.flood_fill.specs.declared.message.Message.{Message}
 use Rattle.flood_fill.specs.Receive.{Result, receive}
-use Rattle.flood_fill_series.specs.Claims.{Held, leaves, run, Image, blockOf, OfImage}
+use Rattle.flood_fill_series.specs.Claims.{Held, leaves, heldAfter, Image, blockOf, OfImage}
 use Rattle.flood_fill_series.specs.Proof.Ends.{Ends, refuses, begins, skips, opens, keeps, drops, misses, finishes, ends}
 use Rattle.flood_fill_series.specs.Proof.Sound.{sound-ends}
 use Rattle.flood_fill_series.specs.Proof.Places.{Blocks, bytesOf, placeOf, Stands, block-length, ends-in-image}
@@ -71,10 +71,10 @@ module _ (i : Image) (last : ℕ) (f : Blocks i last) (m₀ : List ℕ) where
   pub agrees-leaves : (h : Held) (m : Message) → Agrees i last m₀ h → OfImage i m → Agrees i last m₀ (leaves receive h m)
   agrees-leaves h m a p = agrees-ends h m (receive (h .receiver) (h .image) m) (ends (h .receiver) (h .image) m) a p
 
-  pub agrees-run : (h : Held) (ms : List Message) → Agrees i last m₀ h → All (OfImage i) ms → Agrees i last m₀ (run receive h ms)
-  unfolding run
-  agrees-run h [] a p = a
-  agrees-run h (m ∷ ms) a p = agrees-run (leaves receive h m) ms (agrees-leaves h m a (p .0)) (p .1)
+  pub agrees-after : (h : Held) (ms : List Message) → Agrees i last m₀ h → All (OfImage i) ms → Agrees i last m₀ (heldAfter receive h ms)
+  unfolding heldAfter
+  agrees-after h [] a p = a
+  agrees-after h (m ∷ ms) a p = agrees-after (leaves receive h m) ms (agrees-leaves h m a (p .0)) (p .1)
 
   -- ---- a block that stands in the lent image stays there
   stands-ends : (h : Held) (m : Message) (x : Result) (c : ℕ) → Ends (h .receiver) (h .image) m x → Agrees i last m₀ h → Stands i c (h .image)
@@ -88,10 +88,10 @@ module _ (i : Image) (last : ℕ) (f : Blocks i last) (m₀ : List ℕ) where
   stands-ends h m x c (misses b l g) a s = s
   stands-ends h m x c (finishes b l o none) a s = stands-still i last f m₀ h a b l o none c s
 
-  pub stands-run : (h : Held) (ms : List Message) (c : ℕ) → Agrees i last m₀ h → All (OfImage i) ms → Stands i c (h .image)
-      → Stands i c (run receive h ms .image)
-  unfolding run
-  stands-run h [] c a p s = s
-  stands-run h (m ∷ ms) c a p s =
-      stands-run (leaves receive h m) ms c (agrees-leaves h m a (p .0)) (p .1)
+  pub stands-after : (h : Held) (ms : List Message) (c : ℕ) → Agrees i last m₀ h → All (OfImage i) ms → Stands i c (h .image)
+      → Stands i c (heldAfter receive h ms .image)
+  unfolding heldAfter
+  stands-after h [] c a p s = s
+  stands-after h (m ∷ ms) c a p s =
+      stands-after (leaves receive h m) ms c (agrees-leaves h m a (p .0)) (p .1)
       (stands-ends h m (receive (h .receiver) (h .image) m) c (ends (h .receiver) (h .image) m) a s)

@@ -16,7 +16,7 @@ use Rattle.flood_fill.specs.declared.receiver.Receiver.{Receiver}
 use Rattle.flood_fill.specs.Limits.{rightSize}
 use Rattle.flood_fill.specs.Refusals.{isOpen}
 use Rattle.flood_fill.specs.Receive.{Result, afresh, empty, isDone, wordBytes, opening, receive}
-use Rattle.flood_fill_series.specs.Claims.{after, NotRefused, Held, leaves, run, Image, blockOf, OfImage, DataOf, EveryWord, Visited, StandsWhole, LeavesWhole}
+use Rattle.flood_fill_series.specs.Claims.{after, NotRefused, Held, leaves, heldAfter, Image, blockOf, OfImage, DataOf, EveryWord, Visited, StandsWhole, LeavesWhole}
 use Rattle.flood_fill_series.specs.Proof.Ends.{Ends, refuses, begins, ends}
 use Rattle.flood_fill_series.specs.Proof.Accepted.{undone-opens, whole-done, block-start-passes, data-passes, block-end-passes}
 use Rattle.flood_fill_series.specs.Proof.Noted.{message-noted}
@@ -24,13 +24,13 @@ use Rattle.flood_fill_series.specs.Proof.Filled.{notedAll, Filled, noted
 use Rattle.flood_fill_series.specs.Proof.Blocks.{filled-open, filled-whole, done-done}
 use Rattle.flood_fill_series.specs.Proof.Places.{Blocks, Stands, right-size, whole-image}
 use Rattle.flood_fill_series.specs.Proof.Agrees.{Agrees, begun}
-use Rattle.flood_fill_series.specs.Proof.Steps.{agrees-leaves, agrees-run, stands-run}
+use Rattle.flood_fill_series.specs.Proof.Steps.{agrees-leaves, agrees-after, stands-after}
 
 -- ---- lists of messages
-run-append : (h : Held) (xs ys : List Message) → run receive h (xs ++ ys) ≡ run receive (run receive h xs) ys
-unfolding run
-run-append h [] ys = refl
-run-append h (x ∷ xs) ys = run-append (leaves receive h x) xs ys
+held-append : (h : Held) (xs ys : List Message) → heldAfter receive h (xs ++ ys) ≡ heldAfter receive (heldAfter receive h xs) ys
+unfolding heldAfter
+held-append h [] ys = refl
+held-append h (x ∷ xs) ys = held-append (leaves receive h x) xs ys
 
 all-front : {A : Type 0} (P : A → Type 0) (xs ys : List A) → All P (xs ++ ys) → All P xs
 all-front P [] ys a = tt
@@ -51,33 +51,33 @@ module _ (i : Image) (last : ℕ) (f : Blocks i last) (m₀ : List ℕ) (room : 
   long h a = rw (a .count, a .size, a .image-length) room
 
   -- ---- a visit completes its block
-  run-noted : (h : Held) (ms : List Message) → Agrees i last m₀ h → All (DataOf i) ms → run receive h ms .receiver ≡ notedAll (h .receiver) ms
-  unfolding run notedAll
-  run-noted h [] a d = refl
-  run-noted h (Start l n ∷ ms) a d = absurd (d .0)
-  run-noted h (BlockStart b n ∷ ms) a d = absurd (d .0)
-  run-noted h (BlockEnd b ∷ ms) a d = absurd (d .0)
-  run-noted h (BlockData b w v ∷ ms) a d =
+  held-noted : (h : Held) (ms : List Message) → Agrees i last m₀ h → All (DataOf i) ms → heldAfter receive h ms .receiver ≡ notedAll (h .receiver) ms
+  unfolding heldAfter notedAll
+  held-noted h [] a d = refl
+  held-noted h (Start l n ∷ ms) a d = absurd (d .0)
+  held-noted h (BlockStart b n ∷ ms) a d = absurd (d .0)
+  held-noted h (BlockEnd b ∷ ms) a d = absurd (d .0)
+  held-noted h (BlockData b w v ∷ ms) a d =
       let m = BlockData b w v in
-      run-noted (leaves receive h m) ms (agrees-leaves i last f m₀ h m a (d .0)) (d .1)
+      held-noted (leaves receive h m) ms (agrees-leaves i last f m₀ h m a (d .0)) (d .1)
       ∙ ap (λ (x : Receiver). notedAll x ms)
       (message-noted i (h .receiver) (h .image) m (d .0) (data-passes (h .receiver) (h .image) (long h a) b w v))
 
   visit-done : (h : Held) (b : ℕ) → Agrees i last m₀ h → b ≤ last → isDone (h .receiver) b ≡ false → (words : List Message)
       → All (DataOf i) words → EveryWord b (length (blockOf i b)) words
-      → isDone (leaves receive (run receive (leaves receive h (BlockStart b (length (blockOf i b)))) words) (BlockEnd b) .receiver) b ≡ true
+      → isDone (leaves receive (heldAfter receive (leaves receive h (BlockStart b (length (blockOf i b)))) words) (BlockEnd b) .receiver) b ≡ true
   visit-done h b a inside undone words d whole =
       let r = h .receiver in
       let n = length (blockOf i b) in
       let m = BlockStart b n in
       let o = leaves receive h m in
-      let y = run receive o words in
+      let y = heldAfter receive o words in
       let a₁ = agrees-leaves i last f m₀ h m a refl in
-      let a₂ = agrees-run i last f m₀ o words a₁ (all-map (DataOf i) (OfImage i) words (of-data i) d) in
+      let a₂ = agrees-after i last f m₀ o words a₁ (all-map (DataOf i) (OfImage i) words (of-data i) d) in
       let size : rightSize (r .header .count) (r .header .size) b n ≡ true = rw (a .count, a .size) (right-size i last f b inside) in
       let passes = block-start-passes r (h .image) (long h a) b n (omega (arith, a .count)) size in
       let opened : o .receiver ≡ opening r b n = undone-opens r (h .image) b n (receive r (h .image) m) (ends r (h .image) m) undone passes in
-      let e : y .receiver ≡ notedAll (opening r b n) words = run-noted o words a₁ d ∙ ap (λ (x : Receiver). notedAll x words) opened in
+      let e : y .receiver ≡ notedAll (opening r b n) words = held-noted o words a₁ d ∙ ap (λ (x : Receiver). notedAll x words) opened in
       let g : Filled i b n words (opening r b n) (y .receiver) = rw e (noted-all i b n (opening r b n) words refl d) in
       let is-open : isOpen (y .receiver .header .opened) b ≡ true = rw (filled-open i b n words r (y .receiver) g) (eq-eqb b b refl) in
       let last-ends = ends (y .receiver) (y .image) (BlockEnd b) in
@@ -86,30 +86,30 @@ module _ (i : Image) (last : ℕ) (f : Blocks i last) (m₀ : List ℕ) (room : 
       (block-end-passes (y .receiver) (y .image) (long y a₂) b is-open))
 
   visited-stands : (h : Held) (pass : List Message) (b : ℕ) → Agrees i last m₀ h → All (OfImage i) pass → b ≤ last → Visited i b pass
-      → Stands i b (run receive h pass .image)
-  unfolding run
+      → Stands i b (heldAfter receive h pass .image)
+  unfolding heldAfter
   visited-stands h pass b a p inside v =
-      let part = BlockStart b (length (blockOf i b)) ∷ (v .words ++ (BlockEnd b ∷ v .back)) in
+      let part = BlockStart b (length (blockOf i b)) ∷ (v .middle ++ (BlockEnd b ∷ v .back)) in
       let q : All (OfImage i) (v .front ++ part) = rw (v .whole) at p in
-      let h₁ = run receive h (v .front) in
-      let a₁ = agrees-run i last f m₀ h (v .front) a (all-front (OfImage i) (v .front) part q) in
-      rw (v .whole, run-append h (v .front) part) (go h₁ a₁ (isDone (h₁ .receiver) b) refl (all-back (OfImage i) (v .front) part q))
+      let h₁ = heldAfter receive h (v .front) in
+      let a₁ = agrees-after i last f m₀ h (v .front) a (all-front (OfImage i) (v .front) part q) in
+      rw (v .whole, held-append h (v .front) part) (go h₁ a₁ (isDone (h₁ .receiver) b) refl (all-back (OfImage i) (v .front) part q))
     where
       go : (h₁ : Held) → Agrees i last m₀ h₁ → (t : Bool) → isDone (h₁ .receiver) b ≡ t
-          → All (OfImage i) (BlockStart b (length (blockOf i b)) ∷ (v .words ++ (BlockEnd b ∷ v .back)))
-          → Stands i b (run receive h₁ (BlockStart b (length (blockOf i b)) ∷ (v .words ++ (BlockEnd b ∷ v .back))) .image)
+          → All (OfImage i) (BlockStart b (length (blockOf i b)) ∷ (v .middle ++ (BlockEnd b ∷ v .back)))
+          → Stands i b (heldAfter receive h₁ (BlockStart b (length (blockOf i b)) ∷ (v .middle ++ (BlockEnd b ∷ v .back))) .image)
       go h₁ a₁ true e q =
-          stands-run i last f m₀ h₁ (BlockStart b (length (blockOf i b)) ∷ (v .words ++ (BlockEnd b ∷ v .back))) b a₁ q (a₁ .done-agrees b inside e)
+          stands-after i last f m₀ h₁ (BlockStart b (length (blockOf i b)) ∷ (v .middle ++ (BlockEnd b ∷ v .back))) b a₁ q (a₁ .done-agrees b inside e)
       go h₁ a₁ false e q =
           let o = leaves receive h₁ (BlockStart b (length (blockOf i b))) in
-          let y = run receive o (v .words) in
+          let y = heldAfter receive o (v .middle) in
           let z = leaves receive y (BlockEnd b) in
           let a₂ = agrees-leaves i last f m₀ h₁ (BlockStart b (length (blockOf i b))) a₁ refl in
-          let a₃ = agrees-run i last f m₀ o (v .words) a₂ (all-front (OfImage i) (v .words) (BlockEnd b ∷ v .back) (q .1)) in
+          let a₃ = agrees-after i last f m₀ o (v .middle) a₂ (all-front (OfImage i) (v .middle) (BlockEnd b ∷ v .back) (q .1)) in
           let a₄ = agrees-leaves i last f m₀ y (BlockEnd b) a₃ tt in
-          rw (run-append o (v .words) (BlockEnd b ∷ v .back))
-          (stands-run i last f m₀ z (v .back) b a₄ (all-back (OfImage i) (v .words) (BlockEnd b ∷ v .back) (q .1) .1)
-          (a₄ .done-agrees b inside (visit-done h₁ b a₁ inside e (v .words) (v .data-only) (v .every-word))))
+          rw (held-append o (v .middle) (BlockEnd b ∷ v .back))
+          (stands-after i last f m₀ z (v .back) b a₄ (all-back (OfImage i) (v .middle) (BlockEnd b ∷ v .back) (q .1) .1)
+          (a₄ .done-agrees b inside (visit-done h₁ b a₁ inside e (v .middle) (v .data-only) (v .every-word))))
 
   -- ---- an image in which every block stands
   all-stand : (h : Held) → Agrees i last m₀ h → ((b : ℕ) → b ≤ last → Stands i b (h .image)) → StandsWhole i m₀ (h .image)
@@ -128,13 +128,13 @@ leaves-whole i earlier lent last n before pass u (e, low, high) p q visits =
     go (receive (after receive empty earlier) lent (Start last n)) (ends (after receive empty earlier) lent (Start last n)) u visits
   where
     each : (f : Blocks i last) (room : 4 * (suc last * i .size) ≤ length lent) (h : Held) → Agrees i last lent h → (b : ℕ) → b ≤ last → (t : Bool)
-        → isDone (h .receiver) b ≡ t → (isDone (h .receiver) b ≡ false → Visited i b pass) → Stands i b (run receive h pass .image)
-    each f room h a b g true d v = stands-run i last f lent h pass b a q (a .done-agrees b g d)
+        → isDone (h .receiver) b ≡ t → (isDone (h .receiver) b ≡ false → Visited i b pass) → Stands i b (heldAfter receive h pass .image)
+    each f room h a b g true d v = stands-after i last f lent h pass b a q (a .done-agrees b g d)
     each f room h a b g false d v = visited-stands i last f lent room h pass b a q g (v d)
 
     go : (s : Result) → Ends (after receive empty earlier) lent (Start last n) s → NotRefused (s .answer)
-        → ((b : ℕ) → b ≤ last → isDone (run receive (record { receiver = s .receiver; image = s .image }) before .receiver) b ≡ false → Visited i b pass)
-        → StandsWhole i lent (run receive (run receive (record { receiver = s .receiver; image = s .image }) before) pass .image)
+        → ((b : ℕ) → b ≤ last → isDone (heldAfter receive (record { receiver = s .receiver; image = s .image }) before .receiver) b ≡ false → Visited i b pass)
+        → StandsWhole i lent (heldAfter receive (heldAfter receive (record { receiver = s .receiver; image = s .image }) before) pass .image)
     go s (refuses _ k) u v = absurd u
     go s (begins _ _ h l) u v =
         let f : Blocks i last =
@@ -148,7 +148,7 @@ leaves-whole i earlier lent last n before pass u (e, low, high) p q visits =
         in
         let room : 4 * (suc last * i .size) ≤ length lent = rw (sym e) h in
         let h₀ : Held = record { receiver = afresh (suc last) n; image = lent } in
-        let h₁ = run receive h₀ before in
-        let a₁ = agrees-run i last f lent h₀ before (begun i last f lent lent refl refl n e) p in
-        let a₂ = agrees-run i last f lent h₁ pass a₁ q in
-        all-stand i last f lent room (run receive h₁ pass) a₂ (λ b g. each f room h₁ a₁ b g (isDone (h₁ .receiver) b) refl (v b g))
+        let h₁ = heldAfter receive h₀ before in
+        let a₁ = agrees-after i last f lent h₀ before (begun i last f lent lent refl refl n e) p in
+        let a₂ = agrees-after i last f lent h₁ pass a₁ q in
+        all-stand i last f lent room (heldAfter receive h₁ pass) a₂ (λ b g. each f room h₁ a₁ b g (isDone (h₁ .receiver) b) refl (v b g))

@@ -11,7 +11,7 @@ use Rattle.flood_fill.specs.declared.message.Message.{Message}
 use Rattle.flood_fill.specs.declared.message.Message.the-variants.{BlockStart, BlockData, BlockEnd}
 use Rattle.flood_fill.specs.Refusals.{testStart, testBlockStart, testBlockEnd, tested}
 use Rattle.flood_fill.specs.Receive.{missingIn, lowestIn, wordBytes, blockStarted, dataCame, completed, blockEnded, receive}
-use Rattle.flood_fill_series.specs.Claims.{Call, after, answers, messagesOf, run, Image, OfImage, came, EveryWord, Visited}
+use Rattle.flood_fill_series.specs.Claims.{Call, after, answers, messagesOf, heldAfter, Image, OfImage, came, EveryWord, Visited}
 
 -- what computed examples open
 unfoldable storing : Unit {0}
@@ -19,7 +19,7 @@ unfolding storeIfFits words-group.stores
 storing = tt
 
 unfoldable series : Unit {0}
-unfolding after answers messagesOf run came
+unfolding after answers messagesOf heldAfter came
 series = tt
 
 unfoldable pub receiving : Unit {0}
@@ -82,7 +82,7 @@ pub half-visits : Visited twos 1 half
 unfolding twos half words₁
 half-visits = record {
   front = [];
-  words = words₁;
+  middle = words₁;
   back = [];
   whole = refl;
   data-only = ((omega arith, refl), tt);
@@ -93,7 +93,7 @@ pub pass-visits : (b : ℕ) → b ≤ 1 → Visited twos b pass
 unfolding twos pass half words₀ words₁
 pass-visits zero h = record {
   front = [];
-  words = words₀;
+  middle = words₀;
   back = half;
   whole = refl;
   data-only = ((omega arith, refl), ((omega arith, refl), tt));
@@ -101,7 +101,7 @@ pass-visits zero h = record {
 }
 pass-visits (suc zero) h = record {
   front = BlockStart 0 2 ∷ BlockData 0 1 6 ∷ BlockData 0 0 5 ∷ BlockEnd 0 ∷ [];
-  words = words₁;
+  middle = words₁;
   back = [];
   whole = refl;
   data-only = ((omega arith, refl), tt);

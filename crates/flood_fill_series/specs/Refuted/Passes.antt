@@ -8,7 +8,7 @@ use lib.ListN.{getD}
 use Rattle.words.specs.Choice.Laws.{true-is-false}
 use Rattle.flood_fill.specs.declared.message.Message.the-variants.{Start, BlockStart, BlockData, BlockEnd}
 use Rattle.flood_fill.specs.Receive.{empty, afresh, isDone}
-use Rattle.flood_fill_series.specs.Claims.{Call, after, run, Visited, LeavesWhole}
+use Rattle.flood_fill_series.specs.Claims.{Call, after, heldAfter, Visited, LeavesWhole}
 use Rattle.flood_fill_series.specs.Refuted.Receivers.{keepsDoneAtStart, keepsOldMarks, completesEarly, storesAtOwnSize, storesFullBlock}
 use Rattle.flood_fill_series.specs.Refuted.Example.{receiving, zeros, lent, twos, half, pass, half-of-image, pass-of-image, half-visits, pass-visits}
 
@@ -47,7 +47,7 @@ completes-early-refuted p =
     omega arith
   where
     only-second : (b : ℕ) → b ≤ 1
-        → isDone (run completesEarly (record { receiver = afresh 2 2; image = zeros }) (BlockStart 0 2 ∷ BlockEnd 0 ∷ []) .receiver) b ≡ false
+        → isDone (heldAfter completesEarly (record { receiver = afresh 2 2; image = zeros }) (BlockStart 0 2 ∷ BlockEnd 0 ∷ []) .receiver) b ≡ false
         → Visited twos b half
     only-second zero h e = true-is-false e
     only-second (suc zero) h e = half-visits
