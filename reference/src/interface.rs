@@ -3,7 +3,7 @@
 
 use crate::aplx;
 use crate::bytes::{le32, put_le32};
-use crate::flood_fill::{self, Receiver, Taken, MARKS};
+use crate::flood_fill::{self, Receiver, Taken};
 use crate::map::{Map, Region, Rights, MOST_REGIONS};
 use crate::outcome::{Answer, Entry, Loaded, Refusal, Stop};
 use crate::pack;
@@ -275,7 +275,7 @@ fn flood(
     let open = usize::from(receiver.open);
     let answer = message(&mut receiver);
     write_receiver(bytes, &receiver);
-    if answer == Ok(Taken::Done) && open < MARKS {
+    if answer == Ok(Taken::Done) && receiver.done.get(open) == Some(&true) {
         bytes[DONE + open] = 1;
     }
     give(outcome, flood_numbers(answer))
