@@ -166,10 +166,10 @@ uint32_t reidhintsje_pack_aplx(const uint8_t *plan, size_t plan_length, uint8_t 
  */
 #define REIDHINTSJE_RECEIVER_BYTES 1544
 
-/* Start: `last_block` is the number of blocks less 1, `block_size` the words of each block; only the last may be shorter. 1 to 256 blocks
+/* Start: `last_block` is the number of blocks less 1, `size` the words of each block; only the last may be shorter. 1 to 256 blocks
  * of 1 to 256 words, and at most 8192 words in all, else 25. Begins afresh: no block is done. The image is not written. Refusals: 24, 25. */
 uint32_t reidhintsje_flood_fill_start(uint8_t *receiver, const uint8_t *image, size_t image_length, uint32_t last_block,
-                                      uint32_t block_size, uint64_t *outcome);
+                                      uint32_t size, uint64_t *outcome);
 
 /* Block Start: opens a block, with no word come; a block that was open is dropped. IGNORED where the block is done: what is open stays
  * open. `size` is the block's own size. Refusals: 24; 26 before any Start; 27 where there is no such block; 28 where the size is wrong:

@@ -13,14 +13,14 @@ pub extern "C" fn reidhintsje_flood_fill_start(
     receiver: &mut [u8; RECEIVER],
     image: &[u8],
     last_block: u32,
-    block_size: u32,
+    size: u32,
     outcome: &mut [u64; 8],
 ) -> u32
     ensures { λ r. ⌜ r ≡ first (now (outcome .exit)) ⌝ }
-    ensures { λ _. ⌜ now (outcome .exit) ≡ messageCall (now (receiver .entry)) (now (image .entry)) (messages.Start «last_block» «block_size») .numbers ⌝ }
-    ensures { λ _. ⌜ now (receiver .exit) ≡ messageCall (now (receiver .entry)) (now (image .entry)) (messages.Start «last_block» «block_size») .receiver ⌝ }
+    ensures { λ _. ⌜ now (outcome .exit) ≡ messageCall (now (receiver .entry)) (now (image .entry)) (messages.Start «last_block» size) .numbers ⌝ }
+    ensures { λ _. ⌜ now (receiver .exit) ≡ messageCall (now (receiver .entry)) (now (image .entry)) (messages.Start «last_block» size) .receiver ⌝ }
 {
-    let answer = receiver_bytes::receiver::start(receiver, image, last_block, block_size);
+    let answer = receiver_bytes::receiver::start(receiver, image, last_block, size);
     put(outcome, message_parts(answer))
 }
 
