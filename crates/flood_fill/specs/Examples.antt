@@ -15,7 +15,7 @@ use Rattle.flood_fill.specs.declared.receiver.Receiver.{Receiver}
 use Rattle.flood_fill.specs.Limits.{withinLimits, rightSize}
 use Rattle.flood_fill.specs.Refusals.{testStart, testBlockStart, testBlockEnd, tested}
 use Rattle.flood_fill.specs.Answer.{Answer, refused, accepted, ignored, missing, done}
-use Rattle.flood_fill.specs.Receive.{headed, afresh, empty, missingIn, lowestIn, wordBytes, result, opening, completing, blockStarted, dataCame, completed, blockEnded, receive}
+use Rattle.flood_fill.specs.Receive.{headed, afresh, missingIn, lowestIn, wordBytes, result, opening, completing, blockStarted, dataCame, completed, blockEnded, receive}
 
 -- ---- limits
 record Limits : Type 0 where

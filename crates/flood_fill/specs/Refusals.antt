@@ -1,6 +1,6 @@
 -- The tests of a message (paper 02, C-14): "Tested before all that, in this order, refused with 24 to 29 and changing nothing".
 pub mod Laws
-use mathlib.Core.Bool.{Bool, true, false, _&&_}
+use mathlib.Core.Bool.{Bool, false, _&&_}
 use Prim.Native.Nat.{ℕ, suc, _*_}
 use lib.Dec.{ltb, leb, eqb}
 use Rattle.words.specs.Choice.{if_then_else_}

@@ -20,6 +20,9 @@ use crate::test::is_wanted;
 use crate::test::test;
 use outcome::answer::Refusal;
 
+// The blocks that can be done, and the words that can be kept.
+const PLACES: usize = 256;
+
 // The state: which blocks are done, and of the open block which words came, and the words.
 pub struct Receiver {
     pub header: Header,
@@ -51,19 +54,16 @@ pub fn refusal(number: u32) -> Answer
     Answer::Refused(Refusal { number, place: 0 })
 }
 
-// A size, but for what is over 256.
-fn at_most_256(size: u16) -> usize
-    ensures { λ r. ⌜ r ≡ min size 256 ⌝ }
-{
-    if size < 256 { size as usize } else { 256 }
-}
-
-fn open_size(opened: Opened) -> u16
-    ensures { λ r. ⌜ r ≡ openSize opened ⌝ }
+// The words of the open block that there are places for.
+pub fn open_words(opened: Opened) -> usize
+    ensures { λ r. ⌜ r ≡ min (openSize opened) 256 ⌝ }
 {
     match opened {
         Opened::Nothing => 0,
-        Opened::Block { block: _, size } => size,
+        Opened::Block { block: _, size } => {
+            let words = size as usize;
+            if words < PLACES { words } else { PLACES }
+        }
     }
 }
 
@@ -71,7 +71,7 @@ fn open_size(opened: Opened) -> u16
 fn with_set(mut flags: [bool; 256], at: usize) -> [bool; 256]
     ensures { λ r. ⌜ r ≡ set flags at true ⌝ }
 {
-    if at < 256 {
+    if at < PLACES {
         flags[at] = true;
     }
     flags
@@ -184,7 +184,7 @@ impl Receiver {
     {
         let header = self.header;
         let opened = header.opened;
-        let used = at_most_256(open_size(opened));
+        let used = open_words(opened);
         let marks = self.marks;
         let number = missing(&marks[..used]);
         if number > 0 {

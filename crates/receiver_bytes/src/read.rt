@@ -1,9 +1,8 @@
 // What the bytes of a receiver say.
 ghost use mathlib.Core.Path.{_≡_};
-ghost use Prim.Native.Nat.{_≤_, min};
+ghost use Prim.Native.Nat.{_≤_};
 ghost use lib.ListN.{length, take};
 ghost use Rattle.words.specs.Store.{storeIfFits};
-ghost use Rattle.flood_fill.specs.Refusals.{openSize};
 ghost use Rattle.flood_fill.specs.Receive.{isDone, isMarked, missingIn, lowestIn, wordBytes};
 ghost use Rattle.receiver_bytes.specs.Receiver.{openedIn, headerIn, receiverIn};
 use crate::flags::is_set;
@@ -14,7 +13,6 @@ use crate::layout::DONE;
 use crate::layout::MARKS;
 use crate::layout::OPEN_BLOCK;
 use crate::layout::OPEN_SIZE;
-use crate::layout::PLACES;
 use crate::layout::SIZE;
 use crate::layout::WORDS;
 use flood_fill::header::Header;
@@ -57,19 +55,6 @@ pub(crate) fn is_marked(bytes: &[u8], word_id: u32) -> bool
     ensures { λ r. ⌜ r ≡ isMarked (receiverIn (now (bytes .entry))) «word_id» ⌝ }
 {
     is_set(&bytes[MARKS..WORDS], word_id as usize)
-}
-
-// The words of the open block that there are places for.
-pub(crate) fn open_words(opened: Opened) -> usize
-    ensures { λ r. ⌜ r ≡ min (openSize opened) 256 ⌝ }
-{
-    match opened {
-        Opened::Nothing => 0,
-        Opened::Block { block: _, size } => {
-            let words = size as usize;
-            if words < PLACES { words } else { PLACES }
-        }
-    }
 }
 
 // How many of the first `used` words have not come.

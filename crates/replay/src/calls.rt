@@ -4,9 +4,7 @@ use crate::argument::bytes;
 use crate::argument::number;
 use crate::scan::NONE;
 use crate::scan::behind_word;
-
-// The bytes of a flood-fill receiver.
-const RECEIVER_BYTES: usize = 1544;
+use receiver_bytes::layout::RECEIVER;
 
 // The number of the call that changes a map or a memory, or 0.
 fn load_of(line: &[u8]) -> u32 {
@@ -135,7 +133,7 @@ fn right(line: &[u8], at: usize, numbers: &mut [usize; 9]) -> usize {
 // A flood-fill receiver: a table of its length.
 fn receiver(line: &[u8], at: usize, table: &mut [u8], kept: &mut [usize; 4]) -> usize {
     let next = bytes(line, at, table, kept, 0);
-    if kept[0] != RECEIVER_BYTES {
+    if kept[0] != RECEIVER {
         return NONE;
     }
     next

@@ -4,15 +4,13 @@ use mathlib.Core.Bool.{Bool, true, false}
 use Prim.Native.Nat.{ℕ, suc, _≤_, _<_}
 use lib.Dec.{leb, eqb}
 use native.Mathlib.Omega.{arith}
-use borrow.Author.Tests.{leb-true, leb-false, eqb-true}
+use borrow.Author.Tests.{leb-false}
 use Rattle.words.specs.Choice.{if_then_else_}
-use Rattle.words.specs.Choice.Laws.{both}
 use Rattle.flood_fill.specs.declared.message.Message.{Message}
 use Rattle.flood_fill.specs.declared.header.Header.{Header}
-use Rattle.flood_fill.specs.declared.test.Tested.{Tested}
 use Rattle.flood_fill.specs.declared.test.Tested.the-variants.{Refused, Passed}
 use Rattle.flood_fill.specs.Limits.{withinLimits, rightSize}
-use Rattle.flood_fill.specs.Limits.Laws.{Limits, limits}
+use Rattle.flood_fill.specs.Limits.Laws.{Limits, limits, size-bounds}
 use Rattle.flood_fill.specs.Refusals.{isShort, testStart, testBlockStart, ownTests, tested}
 
 -- ---- by the image
@@ -54,15 +52,11 @@ pub block-fits : (h : Header) (b n : ℕ) → testBlockStart h b n ≡ Passed �
 unfolding testBlockStart
 block-fits h b n e = go (eqb (h .count) 0) (leb (h .count) b) (rightSize (h .count) (h .size) b n) refl refl e
   where
-    most : (last : Bool) → (if last then leb n (h .size) else eqb n (h .size)) ≡ true → n ≤ h .size
-    most true g = leb-true n (h .size) g
-    most false g = omega (arith, eqb-true n (h .size) g)
-
     go : (z l r : Bool) → leb (h .count) b ≡ l → rightSize (h .count) (h .size) b n ≡ r
         → (if z then Refused 26 else if l then Refused 27 else if r then Passed else Refused 28) ≡ Passed → BlockFits h b n
     go true l r f g i = never i
     go false true r f g i = never i
     go false false false f g i = never i
     go false false true f g i =
-        let s = both (leb 1 n) (if eqb (suc b) (h .count) then leb n (h .size) else eqb n (h .size)) g in
-        record { below = leb-false (h .count) b f; least = leb-true 1 n (s .0); most = most (eqb (suc b) (h .count)) (s .1) }
+        let s = size-bounds (h .count) (h .size) b n g in
+        record { below = leb-false (h .count) b f; least = s .0; most = s .1 }

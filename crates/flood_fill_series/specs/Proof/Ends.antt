@@ -6,9 +6,9 @@ use Prim.Native.Nat.{ℕ, suc, _*_, _≤_, _<_}
 use native.Mathlib.Omega.{arith}
 use lib.Dec.{ltb, leb, eqb}
 use lib.ListN.{length, take}
-use borrow.Author.Tests.{leb-true, leb-false, ltb-true, ltb-false, eqb-true}
+use borrow.Author.Tests.{leb-false, ltb-true, ltb-false, eqb-true}
 use Rattle.words.specs.Choice.{if_then_else_}
-use Rattle.words.specs.Choice.Laws.{both, true-is-false}
+use Rattle.words.specs.Choice.Laws.{true-is-false}
 use Rattle.words.specs.Store.{storeIfFits}
 use Rattle.flood_fill.specs.declared.message.Message.{Message}
 use Rattle.flood_fill.specs.declared.message.Message.the-variants.{Start, BlockStart, BlockData, BlockEnd}
@@ -17,25 +17,16 @@ use Rattle.flood_fill.specs.declared.header.Opened.the-variants.{Nothing, Block
 use Rattle.flood_fill.specs.declared.test.Tested.the-variants.{Refused, Passed}
 use Rattle.flood_fill.specs.declared.receiver.Receiver.{Receiver}
 use Rattle.flood_fill.specs.Limits.{withinLimits, rightSize}
-use Rattle.flood_fill.specs.Limits.Laws.{Limits, limits}
-use Rattle.flood_fill.specs.Refusals.{isOpen, openSize, isShort, testStart, testBlockStart, testBlockEnd, tested}
+use Rattle.flood_fill.specs.Limits.Laws.{Limits, limits, size-bounds}
+use Rattle.flood_fill.specs.Refusals.{isOpen, openSize, isWanted, isShort, testStart, testBlockStart, testBlockEnd, tested}
 use Rattle.flood_fill.specs.Answer.{refused, accepted, ignored, missing, done}
 use Rattle.flood_fill.specs.Receive.{Result, afresh, isDone, isMarked, missingIn, lowestIn, wordBytes, result, opening, keeping, completing, blockStarted, dataCame, completed, blockEnded, resultAt, receive}
 
--- ---- sizes
-pub right-size-high : (count full b n : ℕ) → rightSize count full b n ≡ true → n ≤ full
-right-size-high count full b n e =
-    go (eqb (suc b) count) (both (leb 1 n) (if eqb (suc b) count then leb n full else eqb n full) e .1)
-  where
-    go : (t : Bool) → (if t then leb n full else eqb n full) ≡ true → n ≤ full
-    go true e = leb-true n full e
-    go false e = omega (arith, eqb-true n full e)
-
+-- ---- the open block
 pub the-open : (o : Opened) (b : ℕ) → isOpen o b ≡ true → o ≡ Block b (openSize o)
 the-open Nothing b e = true-is-false (sym e)
 the-open (Block c n) b e = rw (eqb-true c b e)
 
--- ---- the open block
 -- its own size, how many of its marks are empty, and whether a word is kept
 abbrev pub sizeNow : Receiver → ℕ
 sizeNow r = openSize (r .header .opened)
@@ -44,7 +35,7 @@ abbrev pub missingNow : Receiver → ℕ
 missingNow r = missingIn (take (sizeNow r) (r .marks))
 
 abbrev pub wanted : Receiver → ℕ → ℕ → Bool
-wanted r b w = isOpen (r .header .opened) b && ltb w (sizeNow r) && not (isMarked r w)
+wanted r b w = isWanted (r .header .opened) b w && not (isMarked r w)
 
 -- the image with its words at block b's place
 abbrev pub storedAt : Receiver → List ℕ → ℕ → List ℕ
@@ -89,7 +80,7 @@ module _ (r : Receiver) (image : List ℕ) where
       go false false false e false f d h = refuses (BlockStart b n) 28
       go false false false e true f true h = rw h (skips b n h)
       go false false false e true f false h =
-          rw h (opens b n h (leb-false (r .header .count) b e) (right-size-high (r .header .count) (r .header .size) b n f))
+          rw h (opens b n h (leb-false (r .header .count) b e) (size-bounds (r .header .count) (r .header .size) b n f .1))
 
   data-ends : (b w v : ℕ) → Ends (BlockData b w v) (receive r image (BlockData b w v))
   unfolding receive tested dataCame

@@ -16,7 +16,7 @@ use Rattle.flood_fill.specs.declared.header.Header.{Header}
 use Rattle.flood_fill.specs.declared.receiver.Receiver.{Receiver}
 use Rattle.flood_fill.specs.Receive.{receive}
 use Rattle.flood_fill_series.specs.Claims.{Call, after, answers, messagesOf, NotRefused, Image, blockOf, DataOf, isWord, came}
-use Rattle.flood_fill_series.specs.Proof.Noted.{noted, message-noted, either-noted, or-false, note-mark, note-word}
+use Rattle.flood_fill_series.specs.Proof.Noted.{noted, message-noted, either-noted, or-false, no-else, note-mark, note-word}
 
 unfoldable pub notedAll : Receiver → List Message → Receiver
 notedAll r [] = r
@@ -104,12 +104,8 @@ noted-all i b n r [] o d =
       marks-length = refl;
       words-length = refl;
       mark = λ j. sym (or-false (getD (r .marks) j true));
-      word = λ j h. none (not (getD (r .marks) j true)) (getD (blockOf i b) j 0) (getD (r .words) j 0);
+      word = λ j h. sym (no-else (not (getD (r .marks) j true)) (getD (blockOf i b) j 0) (getD (r .words) j 0));
     }
-  where
-    none : (t : Bool) (x y : ℕ) → y ≡ (if t && false then x else y)
-    none true x y = refl
-    none false x y = refl
 noted-all i b n r (m ∷ ms) o d =
     let p = noted-one i b n r m o (d .0) in
     let q = noted-all i b n (noted r m) ms (ap (λ (h : Header). h .opened) (p .header) ∙ o) (d .1) in

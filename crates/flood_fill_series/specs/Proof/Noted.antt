@@ -14,7 +14,7 @@ use Rattle.flood_fill.specs.declared.message.Message.the-variants.{Start, Block
 use Rattle.flood_fill.specs.declared.header.Opened.{Opened}
 use Rattle.flood_fill.specs.declared.header.Opened.the-variants.{Block}
 use Rattle.flood_fill.specs.declared.receiver.Receiver.{Receiver}
-use Rattle.flood_fill.specs.Refusals.{isOpen, openSize}
+use Rattle.flood_fill.specs.Refusals.{isWanted}
 use Rattle.flood_fill.specs.Receive.{keeping, receive}
 use Rattle.flood_fill_series.specs.Claims.{NotRefused, Image, DataOf}
 use Rattle.flood_fill_series.specs.Proof.Ends.{wanted, ends}
@@ -53,9 +53,13 @@ pub or-false : (t : Bool) → (t || false) ≡ t
 or-false true = refl
 or-false false = refl
 
+pub no-else : (t : Bool) (x y : ℕ) → (if t && false then x else y) ≡ y
+no-else true x y = refl
+no-else false x y = refl
+
 module _ (r : Receiver) (b n : ℕ) (open-block : r .header .opened ≡ Block b n) (k w v : ℕ) where
   wanted-open : wanted r k w ≡ (eqb b k && ltb w n && not (getD (r .marks) w true))
-  wanted-open = ap (λ (o : Opened). isOpen o k && ltb w (openSize o) && not (getD (r .marks) w true)) open-block
+  wanted-open = ap (λ (o : Opened). isWanted o k w && not (getD (r .marks) w true)) open-block
 
   pub note-mark : (j : ℕ) → getD (noted r (BlockData k w v) .marks) j true ≡ getD (r .marks) j true || ((eqb b k && eqb j w) && ltb j n)
   unfolding noted
@@ -77,10 +81,6 @@ module _ (r : Receiver) (b n : ℕ) (open-block : r .header .opened ≡ Block b 
   unfolding noted
   note-word j h = rw wanted-open (go (eqb b k) (eqb j w) refl (ltb w n) refl (getD (r .marks) w true) refl)
     where
-      no-else : (t : Bool) (x y : ℕ) → (if t && false then x else y) ≡ y
-      no-else true x y = refl
-      no-else false x y = refl
-
       go : (x y : Bool) → eqb j w ≡ y → (l : Bool) → ltb w n ≡ l → (m : Bool) → getD (r .marks) w true ≡ m
           → getD ((if (x && l && not m) then keeping r w v else r) .words) j 0
           ≡ (if not (getD (r .marks) j true) && ((x && y) && ltb j n) then v else getD (r .words) j 0)

@@ -1,6 +1,6 @@
 -- What a message leaves of the bytes, by the tests that the code makes.
-use mathlib.Core.Path.{_≡_, refl, sym, _∙_}
-use mathlib.Core.Bool.{Bool, true, false, _&&_}
+use mathlib.Core.Path.{_≡_, sym, _∙_}
+use mathlib.Core.Bool.{Bool, true, false}
 use mathlib.Core.List.{List}
 use Prim.Native.Nat.{ℕ, _*_, _<_, min}
 use native.Mathlib.Omega.{arith}
@@ -13,7 +13,7 @@ use Rattle.flood_fill.specs.declared.message.Message.the-variants.{Start, Block
 use Rattle.flood_fill.specs.declared.header.Header.{Header}
 use Rattle.flood_fill.specs.declared.test.Tested.{Tested}
 use Rattle.flood_fill.specs.declared.test.Tested.the-variants.{Refused, Passed}
-use Rattle.flood_fill.specs.Refusals.{isOpen, openSize, tested}
+use Rattle.flood_fill.specs.Refusals.{openSize, isWanted, tested}
 use Rattle.flood_fill.specs.Answer.{Answer, refused, accepted, ignored, missing, done}
 use Rattle.flood_fill.specs.Receive.{isDone, isMarked, missingIn, lowestIn, wordBytes, blockStarted, dataCame, completed, blockEnded, receive}
 use Rattle.flood_fill.specs.Receive.Flags.{flag-there, take-min}
@@ -54,7 +54,7 @@ module _ (s image : List ℕ) (b n : ℕ) where
 -- ---- a word
 module _ (s image : List ℕ) (b w v : ℕ) (e : tested (headerIn s) (BlockData b w v) (length image) ≡ Passed) where
   abbrev wanted : Bool
-  wanted = isOpen (headerIn s .opened) b && ltb w (openSize (headerIn s .opened))
+  wanted = isWanted (headerIn s .opened) b w
 
   pub data-unwanted : wanted ≡ false → receiveBytes s image (BlockData b w v) ≡ left s image ignored
   unfolding receiveBytes receive receiverIn dataCame

@@ -16,7 +16,7 @@ use Rattle.flood_fill.specs.declared.message.Message.{Message}
 use Rattle.flood_fill.specs.declared.message.Message.the-variants.{Start, BlockStart, BlockData, BlockEnd}
 use Rattle.flood_fill.specs.declared.test.Tested.{Tested}
 use Rattle.flood_fill.specs.declared.test.Tested.the-variants.{Refused, Passed}
-use Rattle.flood_fill.specs.Refusals.{isOpen, openSize, tested}
+use Rattle.flood_fill.specs.Refusals.{openSize, isWanted, tested}
 use Rattle.flood_fill.specs.Refusals.Laws.{passed-own, start-limits, block-fits}
 use Rattle.flood_fill.specs.Answer.{accepted}
 use Rattle.flood_fill.specs.Receive.{empty, isDone, isMarked, missingIn, Result, result, keeping, started, blockStarted, dataCame, blockEnded, completed, performed, resultAt, receive}
@@ -73,7 +73,7 @@ module _ (s image : List ℕ) (are : ReceiverBytes s) where
   data-agrees b w v h = by-test (wanted && not (isMarked (receiverIn s) w)) kept (λ _. same refl refl)
     where
       wanted : Bool
-      wanted = isOpen (receiverIn s .header .opened) b && ltb w (openSize (receiverIn s .header .opened))
+      wanted = isWanted (receiverIn s .header .opened) b w
 
       kept : (wanted && not (isMarked (receiverIn s) w)) ≡ true → Agrees s (BlockData b w v) (result (keeping (receiverIn s) w v) image accepted)
       kept e =

@@ -1,6 +1,5 @@
 -- `flood_fill::test::is_right_size` meets its contract: each return goes by the tests before it.
 use Prim.Native.Nat.{suc}
-use native.Mathlib.Numerals.{add-one}
 use borrow.Author.Tests.{le-leb, lt-leb, eq-eqb, ne-eqb}
 use borrow.Author.Needs.{needs}
 use native.Mathlib.Omega.{arith}

@@ -1,8 +1,8 @@
--- `receiver_bytes::read::open_words` meets its contract: by the cases of the open block.
+-- `flood_fill::receiver::open_words` meets its contract: by the cases of the open block.
 use native.Mathlib.Omega.{arith}
 use borrow.Author.Needs.{needs}
-use Rattle.receiver_bytes.proofs.read.open_words.Statement.{statement}
-use Rattle.receiver_bytes.proofs.read.open_words.Tie as tie
+use Rattle.flood_fill.proofs.receiver.open_words.Statement.{statement}
+use Rattle.flood_fill.proofs.receiver.open_words.Tie as tie
 
 enum-told : tie.Need-enum-told
 enum-told c = search needs
