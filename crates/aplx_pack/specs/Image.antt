@@ -5,7 +5,7 @@ use mathlib.Core.List.{List, [], _∷_, _++_}
 use Prim.Native.Nat.{ℕ, suc, _+_, _*_}
 use lib.ListN.{length}
 use Rattle.words.specs.Four.{fourBytes}
-use Rattle.plan.specs.Plan.{Piece, put, fill, run, dataOf, readPlan}
+use Rattle.plan.specs.Plan.{Piece, put, fill, run, dataOf, datas, readPlan}
 use Rattle.plan.specs.Packed.{Packed, packedAs}
 
 -- "one entry per piece in plan order (RCOPY, FILL, EXEC; unused words zero)"; the data of a put lies off bytes behind its entry's start
@@ -21,10 +21,6 @@ entries earlier [] = fourBytes 0xffffffff 0 0 0
 entries earlier (p ∷ ps) = entryOf p (16 * suc (suc (length ps)) + earlier) ++ entries (earlier + length (dataOf p)) ps
 
 -- "then the data of the puts in order"
-unfoldable pub datas : List Piece → List ℕ
-datas [] = []
-datas (p ∷ ps) = dataOf p ++ datas ps
-
 unfoldable pub aplxImage : List Piece → List ℕ
 aplxImage ps = entries 0 ps ++ datas ps
 

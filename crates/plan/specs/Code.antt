@@ -2,6 +2,8 @@
 pub mod Packer
 pub mod Injective
 pub mod Laws
+pub mod Rows
+pub mod Counting
 use mathlib.Core.List.{List}
 use Prim.Native.Nat.{ℕ}
 use lib.ListN.{length}

@@ -3,8 +3,9 @@ pub mod Steps
 pub mod Laws
 pub mod Unit
 pub mod Sums
+pub mod Datas
 use mathlib.Core.Bool.{not, _&&_}
-use mathlib.Core.List.{List, [], _∷_}
+use mathlib.Core.List.{List, [], _∷_, _++_}
 use Prim.Native.Nat.{ℕ, zero, suc, _+_, _*_, _%_}
 use lib.Dec.{ltb, eqb}
 use lib.ListN.{length, take, drop}
@@ -28,6 +29,11 @@ abbrev pub filledBy : Piece → ℕ
 filledBy (put a d) = 0
 filledBy (fill a n w) = n
 filledBy (run a) = 0
+
+-- "the data of the puts in order"
+unfoldable pub datas : List Piece → List ℕ
+datas [] = []
+datas (p ∷ ps) = dataOf p ++ datas ps
 
 -- "the put lengths"
 unfoldable pub putBytes : List Piece → ℕ

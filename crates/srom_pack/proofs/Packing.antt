@@ -17,7 +17,7 @@ use Rattle.srom_pack.specs.Image.{blockOf, blocks, sromImage, blockAt}
 use Rattle.srom_pack.specs.Image.Laws.{bytesOf, blocks-append, next-block, end-place}
 
 -- ---- the next block
-module _ {s : List ℕ} {i : ℕ} {p : code-piece.Piece} (f : Found 4 s i p) where
+module _ {s : List ℕ} {i : ℕ} {p : code-piece.Piece} (f : Found 4 s (planPieces 4 s) i p) where
   pub next-place : blockAt (planPieces 4 s) (i + 1) ≡ blockAt (planPieces 4 s) i + (7 + putLength p + fillLength p)
   next-place =
       let e : putLength p + fillLength p ≡ bytesOf (pieceIs s p) = omega (arith, f .sizes .of-put, f .sizes .of-fill) in

@@ -2,6 +2,7 @@
 ghost use mathlib.Core.Path.{_≡_};
 ghost use lib.ListN.{length};
 ghost use Rattle.words.specs.Store.{store};
+ghost use Rattle.plan.specs.Plan.{readPlan};
 ghost use Rattle.plan.specs.Packed.{outputAfter, outcomeOf, planPieces};
 ghost use Rattle.plan.specs.Code.Packer.{ImageFits, outcomeIs};
 ghost use Rattle.srom_pack.specs.Image.{sromImage, packSrom};
@@ -12,7 +13,7 @@ use plan::piece::Target;
 
 // The image of a plan with so many pieces, at the output's front.
 fn write_image(plan: &[u8], count: u32, output: &mut [u8])
-    requires { ⌜ ImageFits 4 sromImage (now plan) count (length (now output)) ⌝ }
+    requires { ⌜ ImageFits sromImage (readPlan 4 (now plan)) count (length (now output)) ⌝ }
     ensures { λ _. ⌜ now (output .exit) ≡ store (now (output .entry)) 0 (sromImage (planPieces 4 (now (plan .entry)))) ⌝ }
 {
     output[0] = 0x55;

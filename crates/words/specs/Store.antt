@@ -1,5 +1,6 @@
 -- Bytes stored into a list at a place; all else is untouched.
 pub mod Laws
+pub mod Growing
 use mathlib.Core.List.{List, _++_}
 use Prim.Native.Nat.{ℕ, _+_}
 use lib.Dec.{leb}

@@ -7,12 +7,12 @@ use native.Mathlib.Omega.{arith}
 use lib.ListN.{length, drop, length-append, length-drop}
 use lib.Seq.{drop-at, drop-drop}
 use Rattle.words.specs.Choice.{All}
-use Rattle.plan.specs.Plan.{Piece, put, fill, run, dataOf}
+use Rattle.plan.specs.Plan.{Piece, put, fill, run, dataOf, datas}
 use Rattle.plan.specs.Plan.Laws.{Packable}
 use Rattle.plan.specs.Plan.Sums.{bytes-most}
 use Rattle.aplx_image.specs.Carries.{Says, Carries}
 use Rattle.aplx_image.specs.Carries.Laws.{entry-here}
-use Rattle.aplx_pack.specs.Image.{entryOf, entries, datas, aplxImage}
+use Rattle.aplx_pack.specs.Image.{entryOf, entries, aplxImage}
 use Rattle.aplx_pack.specs.Image.Laws.{length-entryOf, length-entries, length-aplxImage, tail, tail-step, image-tail, put-data}
 
 -- an image in which the entries of these pieces, and all the data, stand from offset k on

@@ -7,8 +7,9 @@ use native.Mathlib.Omega.{arith}
 use lib.ListN.{length, take, drop, length-append, take-append-drop}
 use lib.Seq.{take-at, drop-at, drop-drop, drop-append-le}
 use Rattle.words.specs.Four.Laws.{length-fourBytes}
-use Rattle.plan.specs.Plan.{Piece, put, fill, run, dataOf, putBytes}
-use Rattle.aplx_pack.specs.Image.{entryOf, entries, datas, aplxImage}
+use Rattle.plan.specs.Plan.{Piece, put, fill, run, dataOf, putBytes, datas}
+use Rattle.plan.specs.Plan.Datas.{length-datas, datas-split}
+use Rattle.aplx_pack.specs.Image.{entryOf, entries, aplxImage}
 
 -- ---- lengths
 pub length-entryOf : (p : Piece) (off : ℕ) → length (entryOf p off) ≡ 16
@@ -23,11 +24,6 @@ length-entries k [] = length-fourBytes 0xffffffff 0 0 0
 length-entries k (p ∷ ps) =
     let rest : (j : ℕ) → length (entries j ps) ≡ 16 * suc (length ps) = λ j. length-entries j ps in
     rw (length-append, length-entryOf, rest) (omega arith)
-
-pub length-datas : (ps : List Piece) → length (datas ps) ≡ putBytes ps
-unfolding datas putBytes
-length-datas [] = refl
-length-datas (p ∷ ps) = rw (length-append, length-datas ps)
 
 -- "Length: 16 x (count + 1) + the put lengths."
 pub length-aplxImage : (ps : List Piece) → length (aplxImage ps) ≡ 16 * suc (length ps) + putBytes ps
@@ -68,14 +64,6 @@ drop-entries (p ∷ ps) (suc i) k h =
     let z : 16 * suc i ≡ 16 + 16 * i = omega arith in
     let s : drop 16 (entries k (p ∷ ps)) ≡ entries (k + length (dataOf p)) ps = drop-at (entryOf p off) (entries (k + length (dataOf p)) ps) 16 (length-entryOf p off) in
     rw (z, ← drop-drop (16 * i) 16 (entries k (p ∷ ps)), s, drop-entries ps i (k + length (dataOf p)) (omega arith), length-append, add-assoc)
-
-pub datas-append : (ps qs : List Piece) → datas (ps ++ qs) ≡ datas ps ++ datas qs
-unfolding datas
-datas-append [] qs = refl
-datas-append (p ∷ ps) qs = rw (datas-append ps qs, append-assoc)
-
-pub datas-split : (ps : List Piece) (i : ℕ) → datas ps ≡ datas (take i ps) ++ datas (drop i ps)
-datas-split ps i = ap datas (sym (take-append-drop i ps)) ∙ datas-append (take i ps) (drop i ps)
 
 -- what stands at the entry of piece i: the entries of the pieces from i on, then all the data
 pub at-entry : (ps : List Piece) (i : ℕ) (d : List ℕ) → i ≤ length ps → drop (16 * i) (tail d ps) ≡ tail (d ++ datas (take i ps)) (drop i ps)

@@ -34,12 +34,12 @@ pub unitOf-injective : (x y : Target) → unitOf x ≡ unitOf y → x ≡ y
 unitOf-injective = back-injective unitOf targetBack target-back
 
 -- a piece, and what the tests of one give
-abbrev rowBack : Row → Piece
+abbrev pub rowBack : Row → Piece
 rowBack (putRow a o n) = Put a o n
 rowBack (fillRow a n w) = Fill a n w
 rowBack (runRow a) = Run a
 
-row-back : (x : Piece) → rowBack (rowIs x) ≡ x
+pub row-back : (x : Piece) → rowBack (rowIs x) ≡ x
 row-back (Put a o n) = refl
 row-back (Fill a n w) = refl
 row-back (Run a) = refl

@@ -8,8 +8,8 @@ use Rattle.plan.specs.declared.piece.Piece as code-piece
 use Rattle.plan.specs.declared.piece.Piece.the-variants.{Put, Fill, Run}
 use Rattle.plan.specs.declared.packed.Answer as code-answer
 use Rattle.plan.specs.declared.packed.Answer.the-variants as answer
-use Rattle.plan.specs.Plan.{Piece}
-use Rattle.plan.specs.Packed.{planPieces, Accepted, Outcome, refusal, sized}
+use Rattle.plan.specs.Plan.{Piece, Read, pieces}
+use Rattle.plan.specs.Packed.{piecesIn, Outcome, refusal, sized}
 
 -- a piece of the plan s that can be written to a medium with this unit
 abbrev pub Writable : ℕ → List ℕ → code-piece.Piece → Type 0
@@ -17,12 +17,12 @@ Writable unit s (Put a o n) = (o + n ≤ length s) × (n % unit ≡ 0) × (n ≤
 Writable unit s (Fill a n w) = (n % unit ≡ 0) × (n ≤ 65536)
 Writable unit s (Run a) = Unit {0}
 
--- an accepted plan s of so many pieces, and an image of it that n bytes hold
-pub record ImageFits (unit : ℕ) (image : List Piece → List ℕ) (s : List ℕ) (count n : ℕ) : Type 0 where
-  pub accepted : Accepted unit s
-  pub counts : count ≡ length (planPieces unit s)
+-- what a reader gave is so many pieces, and n bytes hold the image of them
+pub record ImageFits (image : List Piece → List ℕ) (t : Read) (count n : ℕ) : Type 0 where
+  pub accepted : t ≡ pieces (piecesIn t)
+  pub counts : count ≡ length (piecesIn t)
   pub few : count ≤ 64
-  pub fits : length (image (planPieces unit s)) ≤ n
+  pub fits : length (image (piecesIn t)) ≤ n
 
 abbrev pub outcomeIs : code-answer.Answer → Outcome
 outcomeIs (answer.Refused r) = refusal (r .number) (r .place)

@@ -55,11 +55,11 @@ pub record Sized (unit a n : ℕ) : Type 0 where
   pub aligned : a % 4 ≡ 0
   pub low : a < 4294967296
 
--- the data of a put ends within the plan's data
-abbrev pub Passed : ℕ → List ℕ → Row → Type 0
-Passed unit s (putRow a o n) = Sized unit a n × (o + n ≤ dataAt s + dataLength s)
-Passed unit s (fillRow a n w) = Sized unit a n × (w < 4294967296)
-Passed unit s (runRow a) = (a < 4294967296) × (a % 4 ≡ 2 → ⊥)
+-- the data of a put ends at an offset or before it
+abbrev pub Passed : ℕ → ℕ → Row → Type 0
+Passed unit end (putRow a o n) = Sized unit a n × (o + n ≤ end)
+Passed unit end (fillRow a n w) = Sized unit a n × (w < 4294967296)
+Passed unit end (runRow a) = (a < 4294967296) × (a % 4 ≡ 2 → ⊥)
 
 -- what the tests show of the words a, n and w that follow a piece's kind
 module _ (unit : ℕ) (s : List ℕ) (a n w : ℕ) (low : a < 4294967296) where
@@ -74,7 +74,7 @@ module _ (unit : ℕ) (s : List ℕ) (a n w : ℕ) (low : a < 4294967296) where
     low = low;
   }
 
-  run-passed : {row : Row} → judgeRun a n w ≡ good row → Passed unit s row
+  run-passed : {row : Row} → judgeRun a n w ≡ good row → Passed unit (dataAt s + dataLength s) row
   unfolding judgeRun
   run-passed {row} e =
       let x = from-else (not (eqb n 0 && eqb w 0)) bad-no-good e in
@@ -82,7 +82,7 @@ module _ (unit : ℕ) (s : List ℕ) (a n w : ℕ) (low : a < 4294967296) where
       let z : runRow a ≡ row = cc (y .1) in
       rw (sym z) (low, eqb-false _ _ (y .0))
 
-  fill-passed : {row : Row} → w < 4294967296 → judgeFill unit a n w ≡ good row → Passed unit s row
+  fill-passed : {row : Row} → w < 4294967296 → judgeFill unit a n w ≡ good row → Passed unit (dataAt s + dataLength s) row
   unfolding judgeFill
   fill-passed {row} h e =
       let t = from-else (eqb n 0) bad-no-good e in
@@ -92,7 +92,7 @@ module _ (unit : ℕ) (s : List ℕ) (a n w : ℕ) (low : a < 4294967296) where
       let z : fillRow a n w ≡ row = cc (y .1) in
       rw (sym z) (sized (t .0) (u .0) (x .0) (y .0), h)
 
-  put-passed : {row : Row} → judgePut unit s a n w ≡ good row → Passed unit s row
+  put-passed : {row : Row} → judgePut unit s a n w ≡ good row → Passed unit (dataAt s + dataLength s) row
   unfolding judgePut judgeData
   put-passed {row} e =
       let t = from-else (eqb n 0) bad-no-good e in
@@ -104,7 +104,7 @@ module _ (unit : ℕ) (s : List ℕ) (a n w : ℕ) (low : a < 4294967296) where
       let z : putRow a (dataAt s + w) n ≡ row = cc (y .1) in
       rw (sym z) (sized (t .0) (u .0) (x .0) (y .0), omega arith)
 
-pub row-passed : (unit : ℕ) (s : List ℕ) → Bytes s → (i : ℕ) {row : Row} → pieceAt unit s i ≡ good row → Passed unit s row
+pub row-passed : (unit : ℕ) (s : List ℕ) → Bytes s → (i : ℕ) {row : Row} → pieceAt unit s i ≡ good row → Passed unit (dataAt s + dataLength s) row
 unfolding pieceAt judgeAt judgeKind
 row-passed unit s b i =
     let o = tableOf s + 16 * i in
@@ -128,7 +128,7 @@ pub data-length : (s : List ℕ) (o n : ℕ) → o + n ≤ length s → length (
 data-length s o n h = length-take-le n (drop o s) (rw length-drop (omega arith))
 
 module _ (unit : ℕ) (s : List ℕ) where
-  row-packable : dataAt s + dataLength s ≤ length s → (row : Row) → Passed unit s row → Packable unit (pieceIn s row)
+  pub row-packable : {end : ℕ} → end ≤ length s → (row : Row) → Passed unit end row → Packable unit (pieceIn s row)
   row-packable h (putRow a o n) g = rw (data-length s o n (omega arith)) (g .0)
   row-packable h (fillRow a n w) g = g
   row-packable h (runRow a) g = g

@@ -3,13 +3,14 @@ use mathlib.Core.Path.{_≡_}
 use Prim.Native.Nat.{_+_, _-_, _≤_}
 use native.Mathlib.Omega.{arith}
 use lib.ListN.{length, take, drop}
-use Rattle.words.specs.Four.Laws.{four-fits}
+use Rattle.words.specs.Four.{fourBytes}
+use Rattle.words.specs.Four.Laws.{length-fourBytes, four-fits}
 use Rattle.words.specs.Store.Laws.{store-nil}
+use Rattle.words.specs.Store.Growing.{both-fit}
 use Rattle.plan.specs.declared.piece.Piece.the-variants.{Put, Fill}
 use Rattle.plan.specs.Code.Packer.{Writable}
 use Rattle.plan.specs.Plan.Laws.{data-length}
 use Rattle.aplx_pack.specs.Image.{entryOf}
-use Rattle.aplx_pack.proofs.Writing.{piece-put}
 use borrow.Author.Needs.{needs}
 use Rattle.aplx_pack.proofs.entry.write_piece.Statement.{statement}
 use Rattle.aplx_pack.proofs.entry.write_piece.Tie as tie
@@ -76,6 +77,7 @@ same-length : tie.Need-same-length
 same-length c = search needs
 
 returns : tie.Need-returns
+unfolding entryOf
 returns c =
     let d = c .before .before .before .before .before .before .before .before .before in
     let g = d .before .piece .given .0 in
@@ -86,7 +88,8 @@ returns c =
     let bytes = take (g .1 .1 .0) (drop (g .1 .0) (x .plan .now)) in
     let l : length bytes ≡ g .1 .1 .0 = data-length (x .plan .now) (g .1 .0) (g .1 .1 .0) (h .0 .0) in
     rw (d .before .piece .given .1)
-    (piece-put (x .output .now) _ _ (x .at) (x .place) (g .0) bytes (omega arith) (omega arith)
+    (both-fit (x .output .now) _ _ (x .at) (fourBytes 2 (g .0) (x .place - x .at) (length bytes)) (x .place) bytes
+    (omega (arith, length-fourBytes 2 (g .0) (x .place - x .at) (length bytes))) (omega arith)
     (rw l (c .before .before .before .before .before .before .before .put .ensures)) (rw e at (c .before .before .bytes .ensures)))
 
 same-length-2 : tie.Need-same-length-2

@@ -5,6 +5,7 @@ use Prim.Native.Nat.{ℕ, _+_, _*_}
 use native.Mathlib.Omega.{arith}
 use borrow.Author.Needs.{needs}
 use lib.ListN.{length}
+use Rattle.plan.specs.Plan.{readPlan}
 use Rattle.plan.specs.Packed.{planPieces}
 use Rattle.plan.specs.Code.Laws.{Counted, counted}
 use Rattle.plan.specs.Code.Packer.Laws.{leaves-refused, leaves-small, image-fits, leaves-image}
@@ -31,7 +32,7 @@ module _ (c : tie.After-known-told2) where
   plan = start .args .plan .now
 
   read-plan : let g = c .before .count .given .0 in
-      Counted 32 plan (g .0) (g .1 .0) (g .1 .1 .0)
+      Counted (readPlan 32 plan) (g .0) (g .1 .0) (g .1 .1 .0)
   read-plan = counted 32 plan (c .before .before .before .before .before .shared-slice-known .given) (c .before .before .before .read .ensures) (c .before .count .given .1)
 
   size-is : 16 * (c .before .count .given .0 .0 + 1) + c .before .count .given .0 .1 .0 ≡ length (aplxImage (planPieces 32 plan))
@@ -48,7 +49,7 @@ add-size-2 c = omega (arith, read-plan c)
 
 returns : tie.Need-returns
 unfolding packAplx
-returns c = let d = c .before in leaves-small 32 aplxImage (plan d) (start d .args .output .now) (read-plan d) (size-is d) (omega arith)
+returns c = let d = c .before in leaves-small aplxImage (readPlan 32 (plan d)) (start d .args .output .now) (read-plan d) (size-is d) (omega arith)
 
 cast-write-image : tie.Need-cast-write-image
 cast-write-image c = omega (arith, read-plan (c .before))
@@ -56,13 +57,13 @@ cast-write-image c = omega (arith, read-plan (c .before))
 write-image-requires : tie.Need-write-image-requires
 write-image-requires c κs =
     let d = c .before .before in
-    image-fits 32 aplxImage (plan d) (start d .args .output .now) (read-plan d) (size-is d) (omega arith)
+    image-fits aplxImage (readPlan 32 (plan d)) (start d .args .output .now) (read-plan d) (size-is d) (omega arith)
 
 returns-2 : tie.Need-returns-2
 unfolding packAplx
 returns-2 c =
     let x = c .before .before .before .before .before .before .args in
-    leaves-refused 32 aplxImage (x .plan .now) (x .output .now) (c .before .before .before .read .ensures) (c .before .refusal .given .1)
+    leaves-refused aplxImage (readPlan 32 (x .plan .now)) (x .output .now) (c .before .before .before .read .ensures) (c .before .refusal .given .1)
 
 same-length : tie.Need-same-length
 same-length c = search needs
@@ -71,7 +72,7 @@ returns-3 : tie.Need-returns-3
 unfolding packAplx
 returns-3 c =
     let d = c .before .before .before .before .before in
-    leaves-image 32 aplxImage (plan d) (start d .args .output .now) (read-plan d) (size-is d) (omega arith) (c .before .before .write-image .ensures)
+    leaves-image aplxImage (readPlan 32 (plan d)) (start d .args .output .now) (read-plan d) (size-is d) (omega arith) (c .before .before .write-image .ensures)
 
 pub pack-spec : {M : Type 1} → statement M
 pack-spec =

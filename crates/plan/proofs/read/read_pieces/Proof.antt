@@ -7,14 +7,15 @@ use borrow.Author.Needs.{needs}
 use lib.ListN.{length}
 use Rattle.plan.specs.Plan.{dataOf, filledBy, good, pieceAt, readPieces}
 use Rattle.plan.specs.Code.{unitOf, rowIs, judgedIs, pieceIs, outcomeOf}
+use Rattle.plan.specs.Code.Counting.{outcomeAfter}
 use Rattle.plan.specs.Code.Laws.{Lengths, read-lengths}
-use Rattle.plan.proofs.Reading.{counted, counts-start, counts-good, counts-bad, counts-end}
+use Rattle.plan.proofs.Reading.{counts-start, counts-good, counts-bad, counts-end}
 use Rattle.plan.proofs.read.read_pieces.Statement.{statement}
 use Rattle.plan.proofs.read.read_pieces.Tie as tie
 
 abbrev Inv-loop : tie.InvT-loop
 Inv-loop plan target count puts₀ fills₀ i₀ puts fills i =
-    (counted i puts fills (readPieces (unitOf target) plan (count - i) i) ≡ outcomeOf (readPieces (unitOf target) plan count 0)) × ((puts + fills ≤ 65536 * i) × (i ≤ count))
+    (outcomeAfter i puts fills (readPieces (unitOf target) plan (count - i) i) ≡ outcomeOf (readPieces (unitOf target) plan count 0)) × ((puts + fills ≤ 65536 * i) × (i ≤ count))
 
 abbrev μ-loop : tie.MeasureT-loop
 μ-loop plan target count puts₀ fills₀ i₀ puts fills i = count - i

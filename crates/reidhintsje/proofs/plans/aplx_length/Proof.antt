@@ -28,7 +28,7 @@ module _ (c : tie.After-known-told) where
   abbrev fills : ℕ
   fills = c .before .count .given .0 .1 .1 .0
 
-  read-plan : Counted 32 plan count puts fills
+  read-plan : Counted (readPlan 32 plan) count puts fills
   read-plan = counted 32 plan (c .before .before .before .before .shared-slice-known .given) (c .before .before .before .read .ensures) (c .before .count .given .1)
 
 read-requires : tie.Need-read-requires

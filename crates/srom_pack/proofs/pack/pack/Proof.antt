@@ -5,6 +5,7 @@ use Prim.Native.Nat.{ℕ, _+_, _*_}
 use native.Mathlib.Omega.{arith}
 use borrow.Author.Needs.{needs}
 use lib.ListN.{length}
+use Rattle.plan.specs.Plan.{readPlan}
 use Rattle.plan.specs.Packed.{planPieces}
 use Rattle.plan.specs.Code.Laws.{Counted, counted}
 use Rattle.plan.specs.Code.Packer.Laws.{leaves-refused, leaves-small, image-fits, leaves-image}
@@ -31,7 +32,7 @@ module _ (c : tie.After-known-told2) where
   plan = start .args .plan .now
 
   read-plan : let g = c .before .count .given .0 in
-      Counted 4 plan (g .0) (g .1 .0) (g .1 .1 .0)
+      Counted (readPlan 4 plan) (g .0) (g .1 .0) (g .1 .1 .0)
   read-plan = counted 4 plan (c .before .before .before .before .before .shared-slice-known .given) (c .before .before .before .read .ensures) (c .before .count .given .1)
 
   size-is : let g = c .before .count .given .0 in
@@ -52,7 +53,7 @@ add-size-3 c = omega (arith, read-plan c)
 
 returns : tie.Need-returns
 unfolding packSrom
-returns c = let d = c .before in leaves-small 4 sromImage (plan d) (start d .args .output .now) (read-plan d) (size-is d) (omega arith)
+returns c = let d = c .before in leaves-small sromImage (readPlan 4 (plan d)) (start d .args .output .now) (read-plan d) (size-is d) (omega arith)
 
 cast-write-image : tie.Need-cast-write-image
 cast-write-image c = omega (arith, read-plan (c .before))
@@ -60,13 +61,13 @@ cast-write-image c = omega (arith, read-plan (c .before))
 write-image-requires : tie.Need-write-image-requires
 write-image-requires c κs =
     let d = c .before .before in
-    image-fits 4 sromImage (plan d) (start d .args .output .now) (read-plan d) (size-is d) (omega arith)
+    image-fits sromImage (readPlan 4 (plan d)) (start d .args .output .now) (read-plan d) (size-is d) (omega arith)
 
 returns-2 : tie.Need-returns-2
 unfolding packSrom
 returns-2 c =
     let x = c .before .before .before .before .before .before .args in
-    leaves-refused 4 sromImage (x .plan .now) (x .output .now) (c .before .before .before .read .ensures) (c .before .refusal .given .1)
+    leaves-refused sromImage (readPlan 4 (x .plan .now)) (x .output .now) (c .before .before .before .read .ensures) (c .before .refusal .given .1)
 
 same-length : tie.Need-same-length
 same-length c = search needs
@@ -75,7 +76,7 @@ returns-3 : tie.Need-returns-3
 unfolding packSrom
 returns-3 c =
     let d = c .before .before .before .before .before in
-    leaves-image 4 sromImage (plan d) (start d .args .output .now) (read-plan d) (size-is d) (omega arith) (c .before .before .write-image .ensures)
+    leaves-image sromImage (readPlan 4 (plan d)) (start d .args .output .now) (read-plan d) (size-is d) (omega arith) (c .before .before .write-image .ensures)
 
 pub pack-spec : {M : Type 1} → statement M
 pack-spec =

@@ -45,7 +45,7 @@ module _ (c : tie.After-accepted-at Inv-loop μ-loop) where
   abbrev ps : List Piece
   ps = planPieces 4 (start .args .plan .now)
 
-  next-piece : Found 4 (start .args .plan .now) (k .loop .i) (c .accepted-at .result)
+  next-piece : Found 4 (start .args .plan .now) ps (k .loop .i) (c .accepted-at .result)
   next-piece = found 4 (start .args .plan .now) (k .before .before .shared-slice-known .given) (start .pre .accepted) (k .loop .i) (omega arith) _ (c .accepted-at .ensures)
 
   next-inside : blockAt ps (k .loop .i + 1) < length (start .args .output .now)

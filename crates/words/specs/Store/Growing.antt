@@ -1,26 +1,20 @@
--- An image written part by part: the entries and the data, each behind what stands there.
+-- Laws of two parts of a list that are stored piece by piece, each behind what stands there.
 use mathlib.Core.Path.{_≡_, ap, _∙_}
 use mathlib.Core.List.{List, _++_}
-use Prim.Native.Nat.{ℕ, _+_, _-_, _≤_}
+use Prim.Native.Nat.{ℕ, _+_, _≤_}
 use native.Mathlib.Omega.{arith}
 use lib.ListN.{length, length-append}
-use Rattle.words.specs.Four.{fourBytes}
-use Rattle.words.specs.Four.Laws.{length-fourBytes, four-fits}
 use Rattle.words.specs.Range.Laws.{behind}
 use Rattle.words.specs.Store.{store, storeIfFits}
 use Rattle.words.specs.Store.Laws.{length-store, store-fits, store-adjoining, store-commutes}
-use Rattle.plan.specs.Plan.{put}
-use Rattle.aplx_pack.specs.Image.{entryOf}
-use Rattle.aplx_pack.specs.Code.{withPiece}
 
--- a put's entry, and its data behind it
-pub piece-put : (m r s : List ℕ) (p q a : ℕ) (d : List ℕ) → p + 16 ≤ length m → q + length d ≤ length m
-    → r ≡ storeIfFits m p (fourBytes 2 a (q - p) (length d)) → s ≡ storeIfFits r q d → s ≡ withPiece m (put a d) p q
-unfolding entryOf
-piece-put m r s p q a d h k e g =
-    let f = e ∙ four-fits m p 2 a (q - p) (length d) h in
-    let l = ap length f ∙ length-store m p (fourBytes 2 a (q - p) (length d)) (omega (arith, length-fourBytes 2 a (q - p) (length d))) in
-    g ∙ store-fits r q d (omega arith) ∙ ap (λ (x : List ℕ). store x q d) f
+-- two stores that fit
+pub both-fit : (m r s : List ℕ) (p : ℕ) (e : List ℕ) (q : ℕ) (d : List ℕ) → p + length e ≤ length m → q + length d ≤ length m
+    → r ≡ storeIfFits m p e → s ≡ storeIfFits r q d → s ≡ store (store m p e) q d
+both-fit m r s p e q d h k f g =
+    let u = f ∙ store-fits m p e h in
+    let l = ap length u ∙ length-store m p e h in
+    g ∙ store-fits r q d (omega arith) ∙ ap (λ (x : List ℕ). store x q d) u
 
 -- a at the front of m, and b from place q on, behind it; e comes behind a, and d behind b
 module _ (m a b : List ℕ) (q : ℕ) (e : List ℕ) (h : length a + length e ≤ q) where
