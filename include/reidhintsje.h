@@ -37,6 +37,10 @@ extern "C" {
 #define REIDHINTSJE_PLAN_MALFORMED 11u
 #define REIDHINTSJE_LENGTH_NOT_EXPRESSIBLE 12u
 #define REIDHINTSJE_SROM_TOO_LONG 13u
+#define REIDHINTSJE_NO_PIECE 20u
+#define REIDHINTSJE_TOO_MANY_PIECES 21u
+#define REIDHINTSJE_LENGTH_NOT_PACKABLE 22u
+#define REIDHINTSJE_DATA_OUTSIDE 23u
 #define REIDHINTSJE_IMAGE_TOO_SHORT 24u
 #define REIDHINTSJE_OUTSIDE_LIMITS 25u
 #define REIDHINTSJE_NO_START 26u
@@ -50,14 +54,14 @@ extern "C" {
 #define REIDHINTSJE_OUTCOME_NUMBERS 8
 #define REIDHINTSJE_REFUSAL 0 /* the number of the refusal, which the call returns too; 0 if there is none */
 #define REIDHINTSJE_PLACE 1   /* of a refusal, an end or an unknown command: an APLX entry's index, a serial ROM's offset, a piece's index;
-                                 of refusal 10 of a plan, the count of its pieces; of MISSING, the lowest missing word ID */
+                                 of refusal 10 of a plan or an image, the count of its pieces; of MISSING, the lowest missing word ID */
 #define REIDHINTSJE_EVENT 2   /* what happened: one of the numbers below */
 #define REIDHINTSJE_KIND 3    /* of a run: 1 ARM, 2 Thumb; else 0 */
 #define REIDHINTSJE_ADDRESS 4 /* of a run, as written (bit 0 is set for Thumb); of UNKNOWN, the command word */
 #define REIDHINTSJE_RESUME 5  /* after a load that stopped at a run: the offset, or the header address, from which the next load goes on */
 #define REIDHINTSJE_ITEMS 6   /* entries or blocks taken before the stop; pieces of a plan that was read; of MISSING, how many words */
-#define REIDHINTSJE_BYTES 7   /* of a load: stored, each counted every time it was stored; of the response; of the image; of refusal 10: the
-                                 length that the output has to have */
+#define REIDHINTSJE_BYTES 7   /* of a load: stored, each counted every time it was stored; of the response; of the image or plan that was
+                                 written; of refusal 10: the length that the output has to have */
 
 #define REIDHINTSJE_REFUSED 0  /* nothing was changed */
 #define REIDHINTSJE_END 1      /* a load came to its end */
@@ -67,7 +71,7 @@ extern "C" {
 #define REIDHINTSJE_RESPONSE 5 /* a packet was answered; the response stands at the output's front */
 #define REIDHINTSJE_SILENT 6   /* a packet gets no response, and nothing was done */
 #define REIDHINTSJE_READ 7     /* a plan was read */
-#define REIDHINTSJE_PACKED 8   /* a plan was packed; the image stands at the output's front */
+#define REIDHINTSJE_PACKED 8   /* a plan was packed, or an image was read back: the image, or the plan, stands at the output's front */
 #define REIDHINTSJE_ACCEPTED 9 /* a flood-fill message did what it asks: it began an image, opened a block, or its word was kept */
 #define REIDHINTSJE_IGNORED 10 /* a flood-fill message changed nothing, and that is no error */
 #define REIDHINTSJE_MISSING 11 /* a Block End whose block lacks words: ITEMS says how many, PLACE the lowest; the block stays open */
@@ -137,6 +141,17 @@ uint32_t reidhintsje_plan_read(const uint8_t *plan, size_t plan_length, uint32_t
  * BYTES. Refusals: those of reading, and 10 where the image does not fit; BYTES is then the length that it has. */
 uint32_t reidhintsje_pack_srom(const uint8_t *plan, size_t plan_length, uint8_t *output, size_t output_length, uint64_t *outcome);
 uint32_t reidhintsje_pack_aplx(const uint8_t *plan, size_t plan_length, uint8_t *output, size_t output_length, uint64_t *outcome);
+
+/* Reads an APLX image back as a plan, at the output's front; the output past the plan is left as it was. The image is the whole slice, with
+ * its header at offset 0; other bytes may follow. RCOPY becomes put, FILL fill, EXEC run, one piece for each entry up to the first end
+ * word; the unused words of EXEC and of the end entry are ignored. The data of an RCOPY stands at (16 x the entry's index + its offset)
+ * modulo 2^32, counted from the image's first byte, also before its entry or over entries. The plan has its table directly behind its
+ * header, then the data of the puts in order. PACKED with BYTES.
+ * Refusals of an entry, PLACE its index, in this order: 2 where its 16 bytes are not in the slice; 20 for ACOPY or an unknown word; 21
+ * for a 65th piece; 9 for a run address with bits 1:0 = 2; 5 for length zero; 22 for a length that is not a multiple of 32, or over
+ * 65536; 3 where the destination, or the offset of an RCOPY, is not a multiple of 4; 23 where the data of an RCOPY does not lie in the
+ * slice. Last, 10 where the plan does not fit: PLACE is the count of its pieces, BYTES the length that it has. */
+uint32_t reidhintsje_aplx_read(const uint8_t *image, size_t image_length, uint8_t *output, size_t output_length, uint64_t *outcome);
 
 /* ---- flood fill: ACCEPTED, IGNORED, MISSING or DONE
  * An image is passed along in blocks of words, by four messages, each a call. Messages come taken apart; those with a bad checksum are

@@ -1,4 +1,4 @@
--- What each call of the library gives: the definitions of the loaders, the answerer, the reader, the packers and the flood-fill receiver,
+-- What each call of the library gives: the definitions of the loaders, the answerer, the readers, the packers and the flood-fill receiver,
 -- with the map of a table and with numbers for what is no number.
 pub mod Laws
 use mathlib.Core.Bool.{Bool, true, false}
@@ -19,6 +19,8 @@ use Rattle.plan.specs.Packed as packed
 use Rattle.plan.specs.Packed.{Packed, outputAfter}
 use Rattle.srom_pack.specs.Image.{sromImage, packSrom}
 use Rattle.aplx_pack.specs.Image.{aplxImage, packAplx}
+use Rattle.aplx_read.specs.PlanBytes.{planBytes}
+use Rattle.aplx_read.specs.ReadBack.{readImage, readBack}
 use Rattle.map_table.specs.Table.{mapOf}
 use Rattle.flood_fill.specs.declared.message.Message.{Message}
 use Rattle.receiver_bytes.specs.Receiver.{Left, receiveBytes}
@@ -84,7 +86,7 @@ unitAt t = if eqb t 0 then 32 else if eqb t 1 then 4 else 1
 abbrev pub readCall : List ℕ → ℕ → List ℕ
 readCall plan target = readNumbers (read.outcomeOf (readPlan (unitAt target) plan))
 
--- the length that the image of a plan has; a plan that is refused has none
+-- the length that is written for pieces; what is refused has none
 abbrev pub imageLength : (List Piece → List ℕ) → Read → ℕ
 imageLength image (refused n i) = 0
 imageLength image (pieces ps) = length (image ps)
@@ -94,7 +96,7 @@ pub record Packing : Type 0 where
   pub numbers : List ℕ
   pub output : List ℕ
 
--- the plan as it was read, packed as this image into this output
+-- the pieces as they were read, written as this image into this output
 abbrev pub packing : (List Piece → List ℕ) → Read → Packed → List ℕ → Packing
 packing image r p output = record { numbers = packNumbers (imageLength image r) (packed.outcomeOf p); output = outputAfter p output }
 
@@ -103,6 +105,10 @@ sromPackCall plan output = packing sromImage (readPlan 4 plan) (packSrom plan (l
 
 abbrev pub aplxPackCall : List ℕ → List ℕ → Packing
 aplxPackCall plan output = packing aplxImage (readPlan 32 plan) (packAplx plan (length output)) output
+
+-- an image read back: the plan is what is written
+abbrev pub aplxReadCall : List ℕ → List ℕ → Packing
+aplxReadCall image output = packing planBytes (readImage image) (readBack image (length output)) output
 
 -- ---- flood fill: the numbers of the outcome, and the receiver and the image afterwards
 pub record Receiving : Type 0 where

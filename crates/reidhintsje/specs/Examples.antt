@@ -4,11 +4,13 @@ use mathlib.Core.List.{List, [], _∷_, _++_}
 use Prim.Native.Nat.{ℕ}
 use lib.ListN.{take, replicate}
 use Rattle.words.specs.Four.{fourBytes}
+use Rattle.words.specs.Store.{store}
 use Rattle.srom_pack.specs.Open as srom-group
 use Rattle.aplx_pack.specs.Open as aplx-group
+use Rattle.aplx_read.specs.Open as read-group
 use Rattle.map_table.specs.Table.{addition, tableAfter}
 use Rattle.map_table.specs.Open as table-group
-use Rattle.reidhintsje.specs.Calls.{verdictNumber, soundCall, identityOf, unitAt, sromPackCall, aplxPackCall}
+use Rattle.reidhintsje.specs.Calls.{verdictNumber, soundCall, identityOf, unitAt, sromPackCall, aplxPackCall, aplxReadCall}
 
 -- ---- maps: the empty one, and one region of 256 bytes
 zeros : List ℕ
@@ -58,3 +60,16 @@ packings : Packings
 unfolding fill-plan srom-group.image aplx-group.image
 packings =
     record { aplx-none = refl; aplx-less = refl; aplx-whole = refl; srom-none = refl; srom-whole = refl; cut-short = refl }
+
+-- its image read back, into one byte too few and into enough; and an image without an end
+fill-image : List ℕ
+fill-image = fourBytes 3 256 32 7 ++ fourBytes 0xffffffff 0 0 0
+
+record ReadBacks : Type 0 where
+  pub less : aplxReadCall fill-image (replicate 31 9) ≡ record { numbers = 10 ∷ 1 ∷ 0 ∷ 0 ∷ 0 ∷ 0 ∷ 0 ∷ 32 ∷ []; output = replicate 31 9 }
+  pub whole : aplxReadCall fill-image (replicate 33 9) ≡ record { numbers = 0 ∷ 0 ∷ 8 ∷ 0 ∷ 0 ∷ 0 ∷ 0 ∷ 32 ∷ []; output = fill-plan ++ 9 ∷ [] }
+  pub no-end : aplxReadCall (take 31 fill-image) (replicate 33 9) ≡ record { numbers = 2 ∷ 1 ∷ 0 ∷ 0 ∷ 0 ∷ 0 ∷ 0 ∷ 0 ∷ []; output = replicate 33 9 }
+
+read-backs : ReadBacks
+unfolding fill-plan fill-image read-group.reader store
+read-backs = record { less = refl; whole = refl; no-end = refl }

@@ -1,6 +1,6 @@
 // The library for C and Rust: every call takes bytes and numbers and answers in numbers.
 pub mod table; // the calls of a map
 pub mod load; // the two loaders
-pub mod plans; // the reader and the packers
+pub mod plans; // the reader of plans, the packers, and the reader of images
 pub mod packet; // the answerer
 pub mod message; // the messages of a flood fill

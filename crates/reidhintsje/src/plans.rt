@@ -1,13 +1,15 @@
-// The reader of plans, and the packers.
+// The reader of plans, the packers, and the reader of APLX images.
 ghost use mathlib.Core.Path.{_≡_};
 ghost use Rattle.plan.specs.Plan.{readPlan};
 ghost use Rattle.plan.specs.Code.{unitOf};
 ghost use Rattle.plan.specs.Code.Packer as packer;
 ghost use Rattle.srom_pack.specs.Image.{sromImage};
 ghost use Rattle.aplx_pack.specs.Image.{aplxImage};
+ghost use Rattle.aplx_read.specs.PlanBytes.{planBytes};
+ghost use Rattle.aplx_read.specs.ReadBack.{readImage};
 ghost use Rattle.outcome_numbers.specs.Numbers.{first};
 ghost use Rattle.outcome_numbers.specs.Numbers.Laws.{tooSmall};
-ghost use Rattle.reidhintsje.specs.Calls.{unitAt, readCall, imageLength, sromPackCall, aplxPackCall};
+ghost use Rattle.reidhintsje.specs.Calls.{unitAt, readCall, imageLength, sromPackCall, aplxPackCall, aplxReadCall};
 use outcome::answer::OUTPUT_TOO_SMALL;
 use outcome_numbers::numbers::packed_parts;
 use outcome_numbers::numbers::put;
@@ -43,7 +45,7 @@ pub extern "C" fn reidhintsje_plan_read(plan: &[u8], target: u32, outcome: &mut 
     put(outcome, read_parts(answer))
 }
 
-// Whether the output was too small for the image.
+// Whether the output was too small for what was to be written.
 fn too_small(answer: Answer) -> bool
     ensures { λ r. ⌜ r ≡ tooSmall (packer.outcomeIs answer) ⌝ }
 {
@@ -113,6 +115,39 @@ pub extern "C" fn reidhintsje_pack_aplx(
     if too_small(answer) {
         let image = aplx_length(plan);
         return put(outcome, packed_parts(answer, image));
+    }
+    put(outcome, packed_parts(answer, 0))
+}
+
+// The length of an image's plan, or 0 where the image is refused.
+fn plan_length(image: &[u8]) -> u64
+    ensures { λ r. ⌜ r ≡ imageLength planBytes (readImage (now (image .entry))) ⌝ }
+{
+    match aplx_read::image::read(image) {
+        plan::read::Answer::Refused(_) => 0,
+        plan::read::Answer::Pieces {
+            count,
+            puts,
+            fills: _,
+        } => (16 * (count + 1) + puts) as u64,
+    }
+}
+
+// Reads an APLX image back as a plan at the output's front. An image whose plan does not fit is read once more for the plan's length.
+#[no_mangle]
+pub extern "C" fn reidhintsje_aplx_read(
+    image: &[u8],
+    output: &mut [u8],
+    outcome: &mut [u64; 8],
+) -> u32
+    ensures { λ r. ⌜ r ≡ first (now (outcome .exit)) ⌝ }
+    ensures { λ _. ⌜ now (outcome .exit) ≡ aplxReadCall (now (image .entry)) (now (output .entry)) .numbers ⌝ }
+    ensures { λ _. ⌜ now (output .exit) ≡ aplxReadCall (now (image .entry)) (now (output .entry)) .output ⌝ }
+{
+    let answer = aplx_read::read_back::read_back(image, output);
+    if too_small(answer) {
+        let plan = plan_length(image);
+        return put(outcome, packed_parts(answer, plan));
     }
     put(outcome, packed_parts(answer, 0))
 }
