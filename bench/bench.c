@@ -11,8 +11,8 @@
 enum { KIB = 1024, MIB = 1024 * 1024, ROUNDS = 9 };
 #define SIZE ((size_t)33 * MIB)
 
-static uint8_t map[132], ascending[132], mixed[132], *ours, *theirs, *rom, *plan, *out1, *out2, packet[272], reply1[272], reply2[272];
-static size_t rom_length, plan_length, packet_length;
+static uint8_t map[132], ascending[132], mixed[132], *ours, *theirs, *rom, *plan, *image, *out1, *out2, packet[272], reply1[272], reply2[272];
+static size_t rom_length, plan_length, image_length, packet_length;
 static uint64_t outcome1[8], outcome2[8];
 static const uint32_t identity[REIDHINTSJE_IDENTITY_NUMBERS];
 static size_t limit_length;
@@ -33,6 +33,8 @@ static void library_pack_srom(void) { reidhintsje_pack_srom(plan, plan_length, o
 static void plain_pack_srom_(void) { plain_pack_srom(plan, plan_length, out2, 5 * MIB, outcome2); }
 static void library_pack_aplx(void) { reidhintsje_pack_aplx(plan, plan_length, out1, 5 * MIB, outcome1); }
 static void plain_pack_aplx_(void) { plain_pack_aplx(plan, plan_length, out2, 5 * MIB, outcome2); }
+static void library_aplx_read(void) { reidhintsje_aplx_read(image, image_length, out1, 5 * MIB, outcome1); }
+static void plain_aplx_read_(void) { plain_aplx_read(image, image_length, out2, 5 * MIB, outcome2); }
 static void library_scp(void) { reidhintsje_scp_answer(map, 132, ours, SIZE, identity, packet, packet_length, reply1, 272, outcome1); }
 static void plain_scp(void) { plain_scp_answer(map, 132, theirs, SIZE, packet, packet_length, reply2, 272, outcome2); }
 
@@ -184,6 +186,14 @@ static void make_plan(uint32_t count, uint32_t kind)
     plan_length = 16 + 16 * count + 64 * KIB;
 }
 
+/* the image of such a plan; its data stands in it once for each put */
+static void make_image(uint32_t count)
+{
+    make_plan(count, 1);
+    if (reidhintsje_pack_aplx(plan, plan_length, image, 5 * MIB, outcome1)) exit(2);
+    image_length = outcome1[REIDHINTSJE_BYTES];
+}
+
 static void make_packet(uint32_t command, uint32_t address, uint32_t length)
 {
     word(packet, command | 0x00110000);
@@ -212,9 +222,10 @@ int main(void)
     theirs = malloc(SIZE);
     rom = malloc(5 * MIB);
     plan = malloc(MIB);
+    image = malloc(5 * MIB);
     out1 = malloc(5 * MIB);
     out2 = malloc(5 * MIB);
-    if (!ours || !theirs || !rom || !plan || !out1 || !out2) return 2;
+    if (!ours || !theirs || !rom || !plan || !image || !out1 || !out2) return 2;
     for (size_t i = 0; i < SIZE; i++) ours[i] = i * 13 + 1;
     memset(reply1, 0, 272);
     memset(reply2, 0, 272);
@@ -245,6 +256,12 @@ int main(void)
     make_plan(64, 1);
     row("packing puts of 4 MiB as APLX", library_pack_aplx, plain_pack_aplx_, limit_copy, "memcpy");
     row("packing puts of 4 MiB as SROM", library_pack_srom, plain_pack_srom_, limit_copy, "memcpy");
+    limit_length = 64 * KIB;
+    make_image(1);
+    row("reading back an APLX image of 64 KiB", library_aplx_read, plain_aplx_read_, limit_copy, "memcpy");
+    limit_length = 4 * MIB;
+    make_image(64);
+    row("reading back an APLX image of 4 MiB", library_aplx_read, plain_aplx_read_, limit_copy, "memcpy");
     make_packet(2, 0x20000000, 256);
     row("SCP READ of 256 bytes", library_scp, plain_scp, 0, 0);
     make_packet(3, 0x20000000, 256);

@@ -287,3 +287,48 @@ uint32_t plain_pack_aplx(const uint8_t *plan, size_t length, uint8_t *output, si
 {
     return pack(plan, length, output, room, 32, outcome);
 }
+
+/* ---- images */
+uint32_t plain_aplx_read(const uint8_t *image, size_t length, uint8_t *output, size_t room, uint64_t *outcome)
+{
+    uint64_t count = 0, puts = 0;
+    for (;; count++) {
+        const uint8_t *p = image + 16 * count;
+        if (length < 16 * count + 16) return refuse(outcome, 2, count);
+        uint64_t c = little(p), a = little(p + 4), second = little(p + 8), third = little(p + 12), n = c == 2 ? third : second;
+        if (c == 0xffffffff) break;
+        if (c < 2 || c > 4) return refuse(outcome, 20, count);
+        if (count == 64) return refuse(outcome, 21, count);
+        if (c == 4) {
+            if (a % 4 == 2) return refuse(outcome, 9, count);
+            continue;
+        }
+        if (!n) return refuse(outcome, 5, count);
+        if (n % 32 || n > 65536) return refuse(outcome, 22, count);
+        if (a % 4 || (c == 2 && second % 4)) return refuse(outcome, 3, count);
+        if (c == 2 && (uint32_t)(16 * count + second) + n > length) return refuse(outcome, 23, count);
+        if (c == 2) puts += n;
+    }
+    uint64_t plan = 16 * (count + 1) + puts;
+    if (room < plan) return refuse_for(outcome, 10, count, plan);
+    put_little(output, count);
+    put_little(output + 4, 16);
+    put_little(output + 8, 16 * (count + 1));
+    put_little(output + 12, puts);
+    uint8_t *data = output + 16 * (count + 1), *more = data;
+    for (uint64_t i = 0; i < count; i++) {
+        const uint8_t *p = image + 16 * i;
+        uint8_t *to = output + 16 * (i + 1);
+        uint32_t c = little(p), second = little(p + 8), third = little(p + 12);
+        put_little(to, c - 1);
+        put_little(to + 4, little(p + 4));
+        put_little(to + 8, c == 2 ? third : c == 3 ? second : 0);
+        put_little(to + 12, c == 2 ? (uint32_t)(more - data) : c == 3 ? third : 0);
+        if (c == 2) {
+            const uint8_t *from = image + (uint32_t)(16 * i + second);
+            for (uint32_t k = 0; k < third; k++) more[k] = from[k];
+            more += third;
+        }
+    }
+    return answer(outcome, REIDHINTSJE_PACKED, 0, 0, 0, plan);
+}
