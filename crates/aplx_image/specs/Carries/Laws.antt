@@ -1,31 +1,27 @@
 -- Laws of images that carry pieces: their entries lie within them, and from each piece's entry on they carry the pieces from it on.
-use mathlib.Core.Path.{_≡_, ap, sym, _∙_}
+use mathlib.Core.Path.{_≡_, ap, _∙_}
 use mathlib.Core.List.{List, [], _∷_, _++_}
 use Prim.Native.Nat.{ℕ, zero, suc, _+_, _*_, _≤_, _<_}
-use native.Mathlib.Nat.{add-zero}
 use native.Mathlib.Omega.{arith}
 use lib.ListN.{length, drop, length-append, length-drop}
-use Rattle.words.specs.Bytes.{littleEndian, firstBytes, littleEndianAt}
-use Rattle.words.specs.Bytes.Laws.{little-at-drop, little-at-front}
+use Rattle.words.specs.declared.four.Four.{Four}
 use Rattle.words.specs.Four.{fourBytes}
-use Rattle.words.specs.Four.Laws.{length-fourBytes}
+use Rattle.words.specs.Four.Laws.{length-fourBytes, four-here}
 use Rattle.plan.specs.Plan.{Piece, put, fill, run}
 use Rattle.aplx_image.specs.Carries.{EntryAt, EndAt, Says, Carries}
 
 -- four words that stand at offset k are the entry there
 pub entry-here : (image : List ℕ) (k c x y z : ℕ) (rest : List ℕ) → drop k image ≡ fourBytes c x y z ++ rest
     → c < 4294967296 → x < 4294967296 → y < 4294967296 → z < 4294967296 → EntryAt image k c x y z
-unfolding fourBytes littleEndian littleEndianAt firstBytes
-entry-here image k c x y z rest e hc hx hy hz = record {
-  whole = omega (arith, length-drop k image, ap length e ∙ length-append (fourBytes c x y z) rest, length-fourBytes c x y z);
-  command = rw (add-zero k) at (word 0) ∙ little-at-front 4 c [] hc;
-  first = word 4 ∙ little-at-front 4 x [] hx;
-  second = word 8 ∙ little-at-front 4 y [] hy;
-  third = word 12 ∙ little-at-front 4 z [] hz;
-}
-  where
-    word : (j : ℕ) → littleEndianAt 4 image (k + j) ≡ littleEndianAt 4 (fourBytes c x y z ++ rest) j
-    word j = sym (little-at-drop 4 k j image) ∙ ap (λ (s : List ℕ). littleEndianAt 4 s j) e
+entry-here image k c x y z rest e hc hx hy hz =
+    let w = four-here image k c x y z rest e hc hx hy hz in
+    record {
+      whole = omega (arith, length-drop k image, ap length e ∙ length-append (fourBytes c x y z) rest, length-fourBytes c x y z);
+      command = ap (λ (f : Four). f .first) w;
+      first = ap (λ (f : Four). f .second) w;
+      second = ap (λ (f : Four). f .third) w;
+      third = ap (λ (f : Four). f .fourth) w;
+    }
 
 -- an entry lies within the image
 pub says-whole : (image : List ℕ) (k : ℕ) (p : Piece) → Says image k p → k + 16 ≤ length image

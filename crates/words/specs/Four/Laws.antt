@@ -1,5 +1,5 @@
 -- Laws of four words.
-use mathlib.Core.Path.{_≡_, _∙_}
+use mathlib.Core.Path.{_≡_, ap, sym, _∙_}
 use mathlib.Core.List.{List, [], _++_, append-assoc}
 use Prim.Native.Nat.{ℕ, _+_, _-_, _^_, _≤_, _<_}
 use native.Mathlib.Nat.{add-zero}
@@ -52,11 +52,19 @@ module _ (x : List ℕ) (a b c d : ℕ) (s : List ℕ) (ha : a < 256 ^ 4) (hb : 
       let t = w 12 ∙ little-at-front 4 d [] hd in
       λ i. record { first = p i; second = q i; third = r i; fourth = t i }
 
--- the four words of all that stands from place p on
+-- the four words at place p, from it on
+four-drop : (p : ℕ) (s : List ℕ) → fourAt (drop p s) 0 ≡ fourAt s p
+four-drop p s = simp (little-at-drop 4 p 0 s, add-zero, little-at-drop 4 p 4 s, little-at-drop 4 p 8 s, little-at-drop 4 p 12 s)
+
+-- of all that stands there
 pub four-at-rest : (p : ℕ) (s : List ℕ) → fourAt (take (length s - p) (drop p s)) 0 ≡ fourAt s p
-four-at-rest p s =
-    rw (take-all (length s - p) (drop p s) (omega (arith, length-drop p s)))
-    (simp (little-at-drop 4 p 0 s, add-zero, little-at-drop 4 p 4 s, little-at-drop 4 p 8 s, little-at-drop 4 p 12 s))
+four-at-rest p s = rw (take-all (length s - p) (drop p s) (omega (arith, length-drop p s))) (four-drop p s)
+
+-- where their bytes stand there
+pub four-here : (s : List ℕ) (p a b c d : ℕ) (rest : List ℕ) → drop p s ≡ fourBytes a b c d ++ rest
+    → a < 4294967296 → b < 4294967296 → c < 4294967296 → d < 4294967296 → fourAt s p ≡ record { first = a; second = b; third = c; fourth = d }
+four-here s p a b c d rest e ha hb hc hd =
+    sym (four-drop p s) ∙ ap (λ (t : List ℕ). fourAt t 0) e ∙ four-at-behind [] a b c d rest ha hb hc hd
 
 -- past the end
 pub four-past : (p : ℕ) (s : List ℕ) → length s ≤ p → fourAt s p ≡ record { first = 0; second = 0; third = 0; fourth = 0 }
