@@ -1,6 +1,7 @@
 -- The format of a plan and its reader (paper 01, "Plans"). Offsets and sums are whole numbers.
 pub mod Steps
 pub mod Laws
+pub mod Accepts
 pub mod Unit
 pub mod Sums
 pub mod Datas

@@ -5,13 +5,13 @@ use mathlib.Core.List.{List}
 use Prim.Native.Nat.{ℕ, zero, suc, _+_, _*_, _%_}
 use native.Mathlib.Omega.{arith}
 use lib.Dec.{ltb, eqb}
-use lib.ListN.{length}
-use borrow.Author.Tests.{eq-eqb, le-ltb}
+use borrow.Author.Tests.{eq-eqb}
 use Rattle.words.specs.Choice.{if_then_else_}
 use Rattle.words.specs.Bytes.{littleEndianAt}
-use Rattle.plan.specs.Plan.{Piece, countOf, tableOf, dataAt, dataLength, Row, Judged, good, bad, judgeFill, judgeData, judgePut, judgeKind, judgeAt, pieceAt, pieces, readPieces, readPlan}
+use Rattle.plan.specs.Plan.{Piece, countOf, tableOf, dataLength, Row, Judged, good, bad, judgeFill, judgeData, judgePut, judgeKind, judgeAt, pieceAt, pieces, readPieces, readPlan}
 use Rattle.plan.specs.Plan.Steps.{bad-no-good, first-read}
 use Rattle.plan.specs.Plan.Laws.{read-header}
+use Rattle.plan.specs.Plan.Accepts.{header-read}
 
 -- ---- one piece
 module _ {row : Row} where
@@ -61,13 +61,7 @@ module _ (unit : ℕ) (s : List ℕ) where
       rw (piece-one unit s i (f .is-good), pieces-one k (suc i) (f .is-read)) (ap pieces (sym (f .whole)))
 
   pub read-one : {ps : List Piece} → readPlan unit s ≡ pieces ps → readPlan 1 s ≡ pieces ps
-  unfolding readPlan
   read-one e =
       let h = read-header unit s e in
-      rw (
-        le-ltb (length s) 16 (h .long),
-        le-ltb 64 (countOf s) (h .few),
-        le-ltb (length s) (tableOf s + 16 * countOf s) (h .table),
-        le-ltb (length s) (dataAt s + dataLength s) (h .data-inside),
-      )
-      (pieces-one (countOf s) 0 (h .rest))
+      header-read 1 s
+      (record { long = h .long; few = h .few; table = h .table; data-inside = h .data-inside; rest = pieces-one (countOf s) 0 (h .rest) })
