@@ -1,6 +1,7 @@
 -- The bytes of a plan with these pieces (paper 02, C-11): "Table directly after the header, then the data of the puts in order." The format
 -- is that of paper 01, "Plans".
 pub mod Laws
+pub mod Read
 use mathlib.Core.List.{List, [], _∷_, _++_}
 use Prim.Native.Nat.{ℕ, _+_, _*_}
 use lib.ListN.{length}
