@@ -1,6 +1,7 @@
 -- An APLX image read back as a plan (paper 02, C-11). The image is a slice with the header at offset 0; offsets are whole numbers.
 pub mod Laws
 pub mod Told
+pub mod Carried
 use mathlib.Core.Bool.{not}
 use mathlib.Core.List.{List, []}
 use Prim.Native.Nat.{ℕ, zero, suc, _+_, _*_, _%_}

@@ -5,17 +5,16 @@ use mathlib.Core.List.{List}
 use Prim.Native.Nat.{ℕ, _≤_, _<_}
 use native.Mathlib.Omega.{arith}
 use lib.ListN.{length, getD}
-use Rattle.words.specs.Choice.{All}
 use Rattle.plan.specs.declared.piece.Piece as code-piece
 use Rattle.plan.specs.declared.read.Answer as code-answer
 use Rattle.plan.specs.declared.read.Answer.the-variants as answer
 use Rattle.plan.specs.Plan.{Piece, run, pieceIn, pieces}
-use Rattle.plan.specs.Plan.Laws.{Packable, row-packable}
 use Rattle.plan.specs.Code.{rowIs, pieceIs, outcomeOf, outcomeIs}
 use Rattle.plan.specs.Code.Packer.{Writable}
 use Rattle.plan.specs.Code.Laws.{Known, known-bytes, can-write, Lengths, lengths, Found, found-piece, Counted, counted-pieces}
 use Rattle.aplx_read.specs.ReadBack.{piece, entryAt, readImage}
-use Rattle.aplx_read.specs.ReadBack.Laws.{image-row, image-each}
+use Rattle.aplx_read.specs.ReadBack.Laws.{image-row}
+use Rattle.aplx_read.specs.ReadBack.Carried.{image-restored}
 use Rattle.aplx_read.specs.ReadBack.Told.{entry-told}
 use Rattle.aplx_read.specs.Code.{rowOf, imagePieces}
 
@@ -41,4 +40,4 @@ module _ (image : List ℕ) (b : Known image) where
   pub counted : {r : code-answer.Answer} → outcomeIs r ≡ outcomeOf (readImage image) → {n p f : ℕ} → r ≡ answer.Pieces n p f → Counted (readImage image) n p f
   counted =
       counted-pieces 32 (readImage image)
-      (λ ps e. image-each image (Packable 32) (λ i row h. let t = entry-told image (known-bytes image b) i h in (t .few, row-packable 32 image (omega arith) row (t .passed))) e)
+      (λ ps e. let r = image-restored image (known-bytes image b) e in (omega (arith, r .few), r .good))

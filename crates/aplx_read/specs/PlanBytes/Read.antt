@@ -8,7 +8,7 @@ use lib.ListN.{length, drop}
 use lib.Seq.{drop-at, take-at, drop-drop}
 use Rattle.words.specs.declared.four.Four.{Four}
 use Rattle.words.specs.Choice.{All}
-use Rattle.words.specs.Four.{fourAt, fourBytes}
+use Rattle.words.specs.Four.{fourBytes}
 use Rattle.words.specs.Four.Laws.{length-fourBytes, four-here}
 use Rattle.plan.specs.Plan.{Piece, put, fill, run, dataOf, putBytes, datas, countOf, tableOf, dataAt, dataLength, Row, putRow, fillRow, runRow, pieceIn, good, pieceAt, pieces, readPieces, readPlan}
 use Rattle.plan.specs.Plan.Laws.{Packable}
@@ -55,13 +55,12 @@ module _ (unit : ℕ) (s : List ℕ) (short : dataLength s ≤ 4294967295) where
   table-read (p ∷ ps) i earlier rest g e b h =
       let k = tableOf s + 16 * i in
       let n = length (dataOf p) in
-      let t : drop k s ≡ rowBytes p earlier ++ (table (earlier + n) ps ++ rest) = e ∙ append-assoc (rowBytes p earlier) (table (earlier + n) ps) rest in
+      let others = table (earlier + n) ps ++ rest in
+      let t : drop k s ≡ rowBytes p earlier ++ others = e ∙ append-assoc (rowBytes p earlier) (table (earlier + n) ps) rest in
       let u : tableOf s + 16 * suc i ≡ k + 16 = omega arith in
-      let v : drop (tableOf s + 16 * suc i) s ≡ table (earlier + n) ps ++ rest =
-      rw (u, ← drop-drop 16 k s, t) (drop-at (rowBytes p earlier) (table (earlier + n) ps ++ rest) 16 (length-rowBytes p earlier)) in
-      let w : drop (dataAt s + (earlier + n)) s ≡ datas ps =
-      rw (← add-assoc (dataAt s) earlier n, ← drop-drop n (dataAt s + earlier) s, b) (drop-at (dataOf p) (datas ps) n refl) in
-      let r = row-read p i earlier (table (earlier + n) ps ++ rest) (datas ps) (g .0) t b (omega arith) in
+      let v : drop (tableOf s + 16 * suc i) s ≡ others = rw (u, ← drop-drop 16 k s, t) (drop-at (rowBytes p earlier) others 16 (length-rowBytes p earlier)) in
+      let w : drop (dataAt s + (earlier + n)) s ≡ datas ps = rw (← add-assoc (dataAt s) earlier n, ← drop-drop n (dataAt s + earlier) s, b) (drop-at (dataOf p) (datas ps) n refl) in
+      let r = row-read p i earlier others (datas ps) (g .0) t b (omega arith) in
       rw (r .is-piece) at (read-more unit s (length ps) i (r .is-good) (table-read ps (suc i) (earlier + n) rest (g .1) v w (omega arith)))
 
 pub plan-read : (unit : ℕ) (ps : List Piece) → All (Packable unit) ps → length ps ≤ 64 → readPlan unit (planBytes ps) ≡ pieces ps
@@ -71,16 +70,13 @@ plan-read unit ps g few =
     let n = length ps in
     let l = length-planBytes ps in
     let b = bytes-most unit ps g in
-    let f : fourAt s 0 ≡ record { first = n; second = 16; third = 16 + 16 * n; fourth = putBytes ps } =
-    four-here s 0 n 16 (16 + 16 * n) (putBytes ps) (table 0 ps ++ datas ps) refl (omega arith) (omega arith) (omega arith) (omega arith) in
+    let f = four-here s 0 n 16 (16 + 16 * n) (putBytes ps) (table 0 ps ++ datas ps) refl (omega arith) (omega arith) (omega arith) (omega arith) in
     let count : countOf s ≡ n = ap (λ (w : Four). w .first) f in
     let at-table : tableOf s ≡ 16 = ap (λ (w : Four). w .second) f in
     let at-data : dataAt s ≡ 16 + 16 * n = ap (λ (w : Four). w .third) f in
     let data-length : dataLength s ≡ putBytes ps = ap (λ (w : Four). w .fourth) f in
-    let x : drop 16 s ≡ table 0 ps ++ datas ps =
-    drop-at (fourBytes n 16 (16 + 16 * n) (putBytes ps)) (table 0 ps ++ datas ps) 16 (length-fourBytes n 16 (16 + 16 * n) (putBytes ps)) in
-    let y : drop (16 + 16 * n + 0) s ≡ datas ps =
-    rw (add-zero (16 + 16 * n), ← drop-drop (16 * n) 16 s, x) (drop-at (table 0 ps) (datas ps) (16 * n) (length-table 0 ps)) in
+    let x : drop 16 s ≡ table 0 ps ++ datas ps = drop-at (fourBytes n 16 (16 + 16 * n) (putBytes ps)) (table 0 ps ++ datas ps) 16 (length-fourBytes n 16 (16 + 16 * n) (putBytes ps)) in
+    let y : drop (16 + 16 * n + 0) s ≡ datas ps = rw (add-zero (16 + 16 * n), ← drop-drop (16 * n) 16 s, x) (drop-at (table 0 ps) (datas ps) (16 * n) (length-table 0 ps)) in
     header-read unit s (record {
       long = omega arith;
       few = rw count few;

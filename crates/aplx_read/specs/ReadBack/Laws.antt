@@ -1,15 +1,17 @@
 -- Laws of reading an image back: one entry at a time, and the rows of the pieces that were read.
 use mathlib.Core.Path.{_≡_, refl}
 use mathlib.Core.List.{List, [], _∷_}
-use Prim.Native.Nat.{ℕ, zero, suc, _+_, _-_, _≤_, _<_}
+use Prim.Native.Nat.{ℕ, zero, suc, _+_, _-_, _*_, _≤_, _<_}
 use native.Mathlib.Nat.{add-zero, zero-add}
 use native.Mathlib.Numerals.{add-one}
 use native.Mathlib.Omega.{arith}
+use lib.Dec.{ltb, eqb}
 use lib.ListN.{length, getD}
-use Rattle.words.specs.Choice.{All}
+use Rattle.words.specs.Choice.Laws.{from-else, from-either}
+use Rattle.words.specs.Bytes.{littleEndianAt}
 use Rattle.plan.specs.Plan.{Piece, Row, pieceIn, Read, refused, pieces, before}
 use Rattle.plan.specs.Plan.Steps.{refused-no-pieces}
-use Rattle.aplx_read.specs.ReadBack.{Entry, piece, last, bad, entryAt, next, readEntries, readImage}
+use Rattle.aplx_read.specs.ReadBack.{Entry, piece, last, bad, entryOf, entryAt, next, readEntries, readImage}
 
 -- ---- what an entry is not
 pub bad-no-piece : {n : ℕ} {row : Row} → bad n ≡ piece row → ⊥
@@ -17,6 +19,15 @@ bad-no-piece e = let z : _≡_ {A = ℕ} 0 1 = cc in omega arith
 
 pub last-no-piece : {row : Row} → last ≡ piece row → ⊥
 last-no-piece e = let z : _≡_ {A = ℕ} 0 1 = cc in omega arith
+
+-- there is no 65th piece
+pub sixty-fifth : (image : List ℕ) {row : Row} → entryAt image 64 ≡ piece row → ⊥
+unfolding entryAt entryOf
+sixty-fifth image h =
+    let c = littleEndianAt 4 image (16 * 64) in
+    let t = from-else (ltb (length image) (16 * 64 + 16)) bad-no-piece h in
+    let u = from-else (eqb c 0xffffffff) last-no-piece (t .1) in
+    from-either (eqb c 2) bad-no-piece (from-either (eqb c 3) bad-no-piece (from-either (eqb c 4) bad-no-piece bad-no-piece)) (u .1)
 
 -- ---- one step, at entry e of at most k
 pub read-no-more : (image : List ℕ) (k e : ℕ) → k ≤ e → readEntries image (k - e) e ≡ refused 21 e
@@ -74,22 +85,3 @@ entries-at image (suc k) e (p ∷ ps) h (suc n) l d =
 pub image-row : (image : List ℕ) {ps : List Piece} → readImage image ≡ pieces ps → (i : ℕ) → i < length ps → (d : Piece) → RowAt image i (getD ps i d)
 unfolding readImage
 image-row image {ps} h i l d = rw zero-add at (entries-at image 65 0 ps h i l d)
-
--- what is so of the pieces of all entries, each before the 65th
-entries-each :
-    (image : List ℕ) (P : Piece → Type 0) → ((i : ℕ) (row : Row) → entryAt image i ≡ piece row → (i < 64) × P (pieceIn image row))
-    → (k e : ℕ) (ps : List Piece) → e ≤ 64 → readEntries image k e ≡ pieces ps → (e + length ps ≤ 64) × All P ps
-unfolding readEntries
-entries-each image P g zero e ps l h = absurd (refused-no-pieces h)
-entries-each image P g (suc k) e [] l h = (omega arith, tt)
-entries-each image P g (suc k) e (p ∷ ps) l h =
-    let f = first image (entryAt image e) e (readEntries image k (suc e)) h in
-    let t = g e (f .row) (f .is-row) in
-    let r = entries-each image P g k (suc e) ps (t .0) (f .is-read) in
-    (omega (arith, r .0), (rw (f .is-piece) (t .1), r .1))
-
-pub image-each :
-    (image : List ℕ) (P : Piece → Type 0) → ((i : ℕ) (row : Row) → entryAt image i ≡ piece row → (i < 64) × P (pieceIn image row))
-    → {ps : List Piece} → readImage image ≡ pieces ps → (length ps ≤ 64) × All P ps
-unfolding readImage
-image-each image P g {ps} h = let r = entries-each image P g 65 0 ps (omega arith) h in (omega (arith, r .0), r .1)
