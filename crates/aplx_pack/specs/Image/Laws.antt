@@ -1,4 +1,4 @@
--- Laws of the APLX image: its length, and what stands at a piece's entry and where its data lies.
+-- Laws of the APLX image: its length, what stands at a piece's entry and where its data lies, and which plans are packed.
 use mathlib.Core.Path.{_≡_, refl, ap, sym, _∙_}
 use mathlib.Core.List.{List, [], _∷_, _++_, append-assoc}
 use Prim.Native.Nat.{ℕ, zero, suc, _+_, _*_, _≤_}
@@ -7,9 +7,11 @@ use native.Mathlib.Omega.{arith}
 use lib.ListN.{length, take, drop, length-append, take-append-drop}
 use lib.Seq.{take-at, drop-at, drop-drop, drop-append-le}
 use Rattle.words.specs.Four.Laws.{length-fourBytes}
-use Rattle.plan.specs.Plan.{Piece, put, fill, run, dataOf, putBytes, datas}
+use Rattle.plan.specs.Plan.{Piece, put, fill, run, dataOf, putBytes, datas, pieces, readPlan}
 use Rattle.plan.specs.Plan.Datas.{length-datas, datas-split}
-use Rattle.aplx_pack.specs.Image.{entryOf, entries, aplxImage}
+use Rattle.plan.specs.Packed.{packs}
+use Rattle.plan.specs.Packed.Laws.{Fitting, accepted-facts, fitting-packed}
+use Rattle.aplx_pack.specs.Image.{entryOf, entries, aplxImage, packAplx}
 
 -- ---- lengths
 pub length-entryOf : (p : Piece) (off : ℕ) → length (entryOf p off) ≡ 16
@@ -70,3 +72,13 @@ pub at-entry : (ps : List Piece) (i : ℕ) (d : List ℕ) → i ≤ length ps �
 at-entry ps i d h =
     let f : 16 * i ≤ length (entries (length d) ps) = omega (arith, length-entries (length d) ps) in
     rw (drop-append-le (16 * i) (entries (length d) ps) (d ++ datas ps) f, drop-entries ps i (length d) h, datas-split ps i, length-append, append-assoc)
+
+-- ---- packing
+module _ (plan : List ℕ) (room : ℕ) where
+  pub packed-facts : {image : List ℕ} → packAplx plan room ≡ packs image → Fitting aplxImage (readPlan 32 plan) room image
+  unfolding packAplx
+  packed-facts e = accepted-facts aplxImage (readPlan 32 plan) room e
+
+  pub read-packed : {ps : List Piece} → readPlan 32 plan ≡ pieces ps → length (aplxImage ps) ≤ room → packAplx plan room ≡ packs (aplxImage ps)
+  unfolding packAplx
+  read-packed e h = fitting-packed aplxImage (readPlan 32 plan) room e h

@@ -1,4 +1,4 @@
--- Laws of reading an image back: one entry at a time, and the rows of the pieces that were read.
+-- Laws of reading an image back: one entry at a time, the rows of the pieces that were read, and the plan.
 use mathlib.Core.Path.{_≡_, refl}
 use mathlib.Core.List.{List, [], _∷_}
 use Prim.Native.Nat.{ℕ, zero, suc, _+_, _-_, _*_, _≤_, _<_}
@@ -11,7 +11,10 @@ use Rattle.words.specs.Choice.Laws.{from-else, from-either}
 use Rattle.words.specs.Bytes.{littleEndianAt}
 use Rattle.plan.specs.Plan.{Piece, Row, pieceIn, Read, refused, pieces, before}
 use Rattle.plan.specs.Plan.Steps.{refused-no-pieces}
-use Rattle.aplx_read.specs.ReadBack.{Entry, piece, last, bad, entryOf, entryAt, next, readEntries, readImage}
+use Rattle.plan.specs.Packed.{packs}
+use Rattle.plan.specs.Packed.Laws.{Fitting, accepted-facts, fitting-packed}
+use Rattle.aplx_read.specs.PlanBytes.{planBytes}
+use Rattle.aplx_read.specs.ReadBack.{Entry, piece, last, bad, entryOf, entryAt, next, readEntries, readImage, readBack}
 
 -- ---- what an entry is not
 pub bad-no-piece : {n : ℕ} {row : Row} → bad n ≡ piece row → ⊥
@@ -85,3 +88,13 @@ entries-at image (suc k) e (p ∷ ps) h (suc n) l d =
 pub image-row : (image : List ℕ) {ps : List Piece} → readImage image ≡ pieces ps → (i : ℕ) → i < length ps → (d : Piece) → RowAt image i (getD ps i d)
 unfolding readImage
 image-row image {ps} h i l d = rw zero-add at (entries-at image 65 0 ps h i l d)
+
+-- ---- the plan
+module _ (image : List ℕ) (room : ℕ) where
+  pub plan-facts : {plan : List ℕ} → readBack image room ≡ packs plan → Fitting planBytes (readImage image) room plan
+  unfolding readBack
+  plan-facts h = accepted-facts planBytes (readImage image) room h
+
+  pub read-plan : {ps : List Piece} → readImage image ≡ pieces ps → length (planBytes ps) ≤ room → readBack image room ≡ packs (planBytes ps)
+  unfolding readBack
+  read-plan h l = fitting-packed planBytes (readImage image) room h l

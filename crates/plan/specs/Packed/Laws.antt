@@ -1,4 +1,4 @@
--- Laws of packing, over the image: what an accepted plan says.
+-- Laws of packing, over the image: what an accepted plan says, and what is accepted.
 use mathlib.Core.Path.{_≡_, refl, sym}
 use mathlib.Core.Bool.{Bool, true, false}
 use mathlib.Core.List.{List}
@@ -6,7 +6,7 @@ use Prim.Native.Nat.{ℕ, _≤_}
 use native.Mathlib.Omega.{arith}
 use lib.Dec.{ltb}
 use lib.ListN.{length}
-use borrow.Author.Tests.{ltb-false}
+use borrow.Author.Tests.{ltb-false, le-ltb}
 use Rattle.words.specs.Choice.{if_then_else_}
 use Rattle.plan.specs.Plan.{Piece, Read, refused, pieces}
 use Rattle.plan.specs.Packed.{refuses, packs, packedAs}
@@ -27,3 +27,7 @@ accepted-facts image (pieces ps) n {bytes} e = go (ltb n (length (image ps))) re
     go false t e =
         let z : image ps ≡ bytes = cc in
         record { read = ps; are-read = refl; is-image = sym z; fits = rw (sym z) (ltb-false _ _ t) }
+
+-- and a plan that was read is packed where its image fits
+pub fitting-packed : (image : List Piece → List ℕ) (r : Read) (n : ℕ) {ps : List Piece} → r ≡ pieces ps → length (image ps) ≤ n → packedAs image r n ≡ packs (image ps)
+fitting-packed image r n {ps} e h = rw (e, le-ltb n (length (image ps)) h)
