@@ -1,4 +1,5 @@
-"""An independent second program: the rules of paper 01 and of flood fill in Python, written from the papers and not from the specs.
+"""An independent second program: the rules of paper 01, of images read back and of flood fill in Python, written from the papers and not
+from the specs.
 
 It makes the expected output of the program replay (see replay.py). Nothing of the product depends on it.
 
@@ -6,7 +7,7 @@ An answer is a tuple: a word and its values.
   ('refused', number, place, bytes that the output needed, of refusal 10)
   a load: ('end', place, taken, stored), ('unknown', command, place, taken, stored), ('run', kind, address, resume, taken, stored)
   a packet: ('silent',), ('response', size), ('run asked', kind, address), ('run loaded', kind, address, resume)
-  a plan that was read: ('pieces', count); one that was packed: ('size', bytes)
+  a plan that was read: ('pieces', count); one that was packed, and an image that was read back: ('size', bytes)
   a flood-fill message: ('accepted',), ('ignored',), ('missing', number of words, the lowest), ('done',)
 """
 
@@ -343,6 +344,61 @@ def pack_aplx(plan, output):
     output[:len(image)] = image
     return 'size', len(image)
 
+
+# ---- an APLX image read back as a plan
+
+def read_image(image):
+    """The pieces of an image up to its end word, each as four words of a plan, and the data of its puts."""
+    pieces, data = [], bytearray()
+    while True:
+        index = len(pieces)
+        entry = image[16 * index:16 * index + 16]
+        if len(entry) < 16:
+            raise Refused(2, index)
+        command, address, third, fourth = (int.from_bytes(entry[k:k + 4], 'little') for k in range(0, 16, 4))
+        if command == 0xffffffff:
+            return pieces, data
+        if command not in (2, 3, 4):
+            raise Refused(20, index)
+        if index == 64:
+            raise Refused(21, index)
+        if command == 4:
+            if address % 4 == 2:
+                raise Refused(9, index)
+            pieces.append((3, address, 0, 0))
+            continue
+        length = fourth if command == 2 else third
+        if length == 0:
+            raise Refused(5, index)
+        if length % 32 or length > 65536:
+            raise Refused(22, index)
+        if address % 4 or command == 2 and third % 4:
+            raise Refused(3, index)
+        if command == 3:
+            pieces.append((2, address, length, fourth))
+            continue
+        start = (16 * index + third) % 2 ** 32
+        if start + length > len(image):
+            raise Refused(23, index)
+        pieces.append((1, address, length, len(data)))
+        data += image[start:start + length]
+
+
+def aplx_read(image, output):
+    """The answer; the plan at the output's front."""
+    try:
+        pieces, data = read_image(image)
+        header = len(pieces), 16, 16 + 16 * len(pieces), len(data)
+        plan = b''.join(word.to_bytes(4, 'little') for words in [header, *pieces] for word in words) + data
+        if len(plan) > len(output):
+            raise Refused(10, len(pieces), len(plan))
+    except Refused as r:
+        return r.answer
+    output[:len(plan)] = plan
+    return 'size', len(plan)
+
+
+# ---- the programs
 
 def converted(pack, plan):
     """What a program writes for what it reads: plans up to 32,768 bytes, images up to 65,536."""

@@ -6,7 +6,7 @@ replay.py: fails where the stored file is another.
 
 The head of crates/replay/data/cases says how a call is written and what is written for it. `=` is the buffer of the same
 kind (table, memory, output, input) as the last call of the file left it. A flood-fill receiver is of the kind table, its image
-of the kind memory.
+of the kind memory; a rom, a packet, a plan and an APLX image are of the kind input.
 """
 import re
 import struct
@@ -28,6 +28,7 @@ CALLS = {
     'plan_read': ('input', WORD),
     'pack_srom': ('input', 'output'),
     'pack_aplx': ('input', 'output'),
+    'aplx_read': ('input', 'output'),
     'map_sound': ('table', LONG),
     'lookup': ('table', 4, WORD, LONG),
     'run_entry': ('table', WORD),
@@ -45,6 +46,7 @@ CHANGED = {
     'scp_answer': ('memory', 'output'),
     'pack_srom': ('output',),
     'pack_aplx': ('output',),
+    'aplx_read': ('output',),
     'flood_fill_start': ('table',),
     'flood_fill_block_start': ('table',),
     'flood_fill_block_data': ('table',),
@@ -163,6 +165,10 @@ def pack_srom(plan, output):
 
 def pack_aplx(plan, output):
     return numbers(model.pack_aplx(plan, output))
+
+
+def aplx_read(image, output):
+    return numbers(model.aplx_read(image, output))
 
 
 def map_sound(table, size):

@@ -2,14 +2,13 @@
 //! Each buffer that the library is lent lies between guard bytes that must stay as they were.
 
 use crate::compare_flood::{compare_flood, describe_flood};
+use crate::compare_read_back::{compare_old_image, compare_read};
+use crate::compare_series::{compare_series, Loads};
 use crate::generate::Case;
 use crate::guarded::{shown, Guarded, Numbers};
-use crate::interface::{load_numbers, load_of, map_of, packed_numbers, Library, Outcome, Reference};
-use crate::outcome::{Answer, Refusal};
-use crate::pack;
-use crate::plan;
+use crate::interface::{Library, Outcome, Reference};
 use crate::random::Random;
-use crate::series::{self, Medium, Report, Step};
+use crate::series::Step;
 use crate::tally::{
     identity_kind, load_kind, memory_kind, number_kind, reply_kind, rights_kind, table_kind, taken_kind, Tally,
 };
@@ -133,7 +132,13 @@ pub fn compare(
             tally.count("pack_aplx", number_kind(expected[0]));
         }
         Case::Series { plan, table, memory, medium, steps } => {
-            return compare_series(library, plan, table, memory, *medium, steps, random, tally);
+            return compare_series(library, plan, &Loads { table, memory, medium: *medium, steps }, random, tally);
+        }
+        Case::AplxRead { image, output, packed } => {
+            return compare_read(library, image, output, *packed, random, tally);
+        }
+        Case::OldImage { image, table, memory, old, new, steps } => {
+            return compare_old_image(library, image, table, memory, [*old, *new], steps, random, tally);
         }
         Case::FloodFill(flood) => return compare_flood(flood, library, random, tally),
     }
@@ -145,94 +150,6 @@ fn count_load(tally: &mut Tally, call: &'static str, numbers: &Outcome, memory: 
     tally.count(call, memory_kind(memory.len()));
     if let Some(taken) = taken_kind(numbers) {
         tally.count(call, taken);
-    }
-}
-
-/// Packs the plan with the library, and compares a series of its loads with the plan's meaning.
-#[allow(clippy::too_many_arguments)]
-fn compare_series(
-    library: &dyn Library,
-    plan: &[u8],
-    table: &[u8],
-    memory: &[u8],
-    medium: Medium,
-    steps: &[Step],
-    random: &mut Random,
-    tally: &mut Tally,
-) -> Result<u64, String> {
-    let map = map_of(table).ok_or("the table holds no map")?;
-    let pieces = plan::read(plan, plan::NO_UNIT).map_err(|r| format!("not readable: {r:?}"))?;
-    let own_image = match medium {
-        Medium::Srom => pack::srom_image(plan, &pieces),
-        Medium::Aplx { .. } => pack::aplx_image(plan, &pieces),
-    };
-    let size = own_image.len() + random.pick(&[0, 0, 1, 40]);
-    let room = random.bytes(size);
-    let mut output = Guarded::new(&room, random);
-    let mut numbers = Numbers::new();
-    let number = match medium {
-        Medium::Srom => library.pack_srom(plan, output.lent(), numbers.lent()),
-        Medium::Aplx { .. } => library.pack_aplx(plan, output.lent(), numbers.lent()),
-    };
-    numbers.check(number, &packed_numbers(own_image.len() as u64))?;
-    let mut packed = room.clone();
-    packed[..own_image.len()].copy_from_slice(&own_image);
-    output.check("the packed output", &packed)?;
-    let image = output.read()[..own_image.len()].to_vec();
-    if !series::granted(medium, &pieces, &image, &map, memory, steps) {
-        return Err("the series does not keep what demand 3 grants".to_string());
-    }
-
-    let mut trouble = None;
-    let mut loader = |memory: &mut [u8], start: u64| -> Answer {
-        let mut lent = Guarded::new(memory, random);
-        let mut numbers = Numbers::new();
-        let number = match medium {
-            Medium::Srom => {
-                library.srom_load(table, lent.lent(), &image, start as usize, numbers.lent())
-            }
-            Medium::Aplx { .. } => {
-                library.aplx_load(table, lent.lent(), start as u32, numbers.lent())
-            }
-        };
-        memory.copy_from_slice(lent.read());
-        let told = *numbers.lent();
-        let answer = load_of(&told).unwrap_or(Err(Refusal { number: u32::MAX, place: 0 }));
-        let check = numbers.check(number, &load_numbers(answer)).and(lent.check("memory", memory));
-        trouble = trouble.take().or(check.err());
-        answer
-    };
-    let loads = series::loads(medium, &pieces, memory.to_vec(), steps, &mut loader);
-    if let Some(text) = trouble {
-        return Err(text);
-    }
-    let meant = series::meant(medium, plan, &pieces, &map, memory.to_vec(), steps);
-    for (index, (load, meaning)) in loads.iter().zip(&meant).enumerate() {
-        if load != meaning {
-            return Err(format!(
-                "load {index} differs from the plan's meaning\nload    {:?}\nmeaning {:?}\n\
-                 memory after the load {}\nmemory that is meant  {}",
-                load.report,
-                meaning.report,
-                shown(&load.memory),
-                shown(&meaning.memory)
-            ));
-        }
-        let call = if medium == Medium::Srom { "series SROM" } else { "series APLX" };
-        tally.count(call, report_kind(&meaning.report));
-    }
-    Ok(1 + loads.len() as u64)
-}
-
-fn report_kind(report: &Report) -> String {
-    match report {
-        Report::Run { entry, .. } => {
-            let name = if *entry == crate::outcome::Entry::Arm { "ARM" } else { "Thumb" };
-            format!("stop run {name}")
-        }
-        Report::End { .. } => "stop end".to_string(),
-        Report::Unknown { .. } => "stop unknown".to_string(),
-        Report::Refused { number, .. } => number_kind(u64::from(*number)),
     }
 }
 
@@ -279,17 +196,31 @@ pub fn describe(case: &Case) -> String {
             format!("pack_aplx\n  plan {}\n  output {}\n", shown(plan), shown(output))
         }
         Case::Series { plan, table, memory, medium, steps } => {
-            let mut text = format!(
+            let text = format!(
                 "series on {medium:x?}\n  plan {}\n  table {}\n  memory {}\n",
                 shown(plan),
                 shown(table),
                 shown(memory)
             );
-            for step in steps {
-                text.push_str(&format!("  load from piece {}, then {:x?}\n", step.index, step.changes));
-            }
-            text
+            text + &steps_text(steps)
+        }
+        Case::AplxRead { image, output, packed } => {
+            format!("aplx_read\n  image {}\n  output {}\n  packed {packed}\n", shown(image), shown(output))
+        }
+        Case::OldImage { image, table, memory, old, new, steps } => {
+            format!(
+                "old image at {old:#x}, the packed one at {new:#x}\n  image {}\n  table {}\n  memory {}\n{}",
+                shown(image),
+                shown(table),
+                shown(memory),
+                steps_text(steps)
+            )
         }
         Case::FloodFill(flood) => describe_flood(flood),
     }
+}
+
+fn steps_text(steps: &[Step]) -> String {
+    let text = |step: &Step| format!("  load from piece {}, then {:x?}\n", step.index, step.changes);
+    steps.iter().map(text).collect()
 }

@@ -105,6 +105,19 @@ pub unsafe extern "C" fn reidhintsje_pack_aplx(
 }
 
 #[no_mangle]
+pub unsafe extern "C" fn reidhintsje_aplx_read(
+    image: *const u8, image_length: usize,
+    output: *mut u8, output_length: usize,
+    outcome: *mut Outcome,
+) -> u32 {
+    Reference.aplx_read(
+        from_raw_parts(image, image_length),
+        from_raw_parts_mut(output, output_length),
+        &mut *outcome,
+    )
+}
+
+#[no_mangle]
 pub unsafe extern "C" fn reidhintsje_flood_fill_start(
     receiver: *mut ReceiverBytes,
     image: *const u8, image_length: usize,

@@ -8,6 +8,7 @@ use crate::map::{Map, Region, Rights, MOST_REGIONS};
 use crate::outcome::{Answer, Entry, Loaded, Refusal, Stop};
 use crate::pack;
 use crate::plan;
+use crate::read_back;
 use crate::receiver::{receiver_of, write_receiver, ReceiverBytes, DONE};
 use crate::scp::{self, Identity, Reply};
 use crate::srom;
@@ -46,6 +47,7 @@ pub trait Library {
     fn plan_read(&self, plan: &[u8], target: u32, outcome: &mut Outcome) -> u32;
     fn pack_srom(&self, plan: &[u8], output: &mut [u8], outcome: &mut Outcome) -> u32;
     fn pack_aplx(&self, plan: &[u8], output: &mut [u8], outcome: &mut Outcome) -> u32;
+    fn aplx_read(&self, image: &[u8], output: &mut [u8], outcome: &mut Outcome) -> u32;
     fn flood_fill_start(
         &self,
         receiver: &mut ReceiverBytes,
@@ -237,12 +239,13 @@ fn read_numbers(count: Result<u64, Refusal>) -> Outcome {
     }
 }
 
-/// The outcome numbers of a plan that was packed as an image of so many bytes.
+/// The outcome numbers of a plan that was packed as an image of so many bytes, or of an image that was read back as such a plan.
 pub fn packed_numbers(size: u64) -> Outcome {
     outcome_of(event::PACKED, &[(at::BYTES, size)])
 }
 
-/// Of a plan that was packed or refused; `needed` is the length of its image, asked only where it did not fit.
+/// Of a plan that was packed or an image that was read back, or refused; `needed` is the length of what is written, asked only where it
+/// did not fit.
 fn pack_numbers(size: Result<u64, Refusal>, needed: impl FnOnce() -> u64) -> Outcome {
     match size {
         Ok(size) => packed_numbers(size),
@@ -384,6 +387,12 @@ impl Library for Reference {
         let needed = || plan::read(plan, plan::APLX_UNIT).map_or(0, |pieces| pack::aplx_length(&pieces));
         give(outcome, pack_numbers(pack::pack_aplx(plan, output), needed))
     }
+
+    fn aplx_read(&self, image: &[u8], output: &mut [u8], outcome: &mut Outcome) -> u32 {
+        let needed = || read_back::pieces(image).map_or(0, |pieces| read_back::plan_length(&pieces));
+        give(outcome, pack_numbers(read_back::read_back(image, output), needed))
+    }
+
     fn flood_fill_start(
         &self,
         receiver: &mut ReceiverBytes,

@@ -45,6 +45,11 @@ extern "C" {
         output: *mut u8, output_length: usize,
         outcome: *mut u64,
     ) -> u32;
+    fn reidhintsje_aplx_read(
+        image: *const u8, image_length: usize,
+        output: *mut u8, output_length: usize,
+        outcome: *mut u64,
+    ) -> u32;
     fn reidhintsje_flood_fill_start(
         receiver: *mut u8,
         image: *const u8, image_length: usize,
@@ -156,6 +161,17 @@ impl Library for Linked {
             )
         }
     }
+
+    fn aplx_read(&self, image: &[u8], output: &mut [u8], outcome: &mut Outcome) -> u32 {
+        unsafe {
+            reidhintsje_aplx_read(
+                image.as_ptr(), image.len(),
+                output.as_mut_ptr(), output.len(),
+                outcome.as_mut_ptr(),
+            )
+        }
+    }
+
     fn flood_fill_start(
         &self,
         receiver: &mut ReceiverBytes,

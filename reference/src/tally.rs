@@ -2,9 +2,10 @@
 
 use std::collections::BTreeMap;
 
-use crate::bytes::{le16, le32};
+use crate::bytes::{le16, le32, share};
 use crate::flood_fill::{Message, Receiver};
 use crate::interface::{at, event, map_of, Numbers, Outcome, TABLE};
+use crate::plan::Piece;
 use crate::receiver::ReceiverBytes;
 use crate::scp;
 
@@ -186,6 +187,47 @@ pub fn block_kind(receiver: &Receiver, image: usize, numbers: &Outcome) -> Optio
     }
 }
 
+/// What reading an image back came to; the 65th entry by itself too.
+pub fn read_kinds(numbers: &Outcome) -> Vec<String> {
+    let kind = number_kind(numbers[at::REFUSAL]);
+    let last = numbers[at::REFUSAL] != 10 && numbers[at::PLACE] == 64;
+    let of_last = last.then(|| format!("{kind}, entry 64"));
+    [kind].into_iter().chain(of_last).collect()
+}
+
+/// What is special in the pieces of an image that was read back.
+pub fn read_back_kinds(pieces: &[Piece]) -> Vec<&'static str> {
+    let puts: Vec<(usize, usize, usize)> = pieces
+        .iter()
+        .enumerate()
+        .filter_map(|(index, piece)| match piece {
+            Piece::Put { data, .. } => Some((index, data.start, data.len())),
+            _ => None,
+        })
+        .collect();
+    let meet = |k: usize| {
+        let (_, start, length) = puts[k];
+        puts[..k].iter().any(|put| share(start as u64, length as u64, put.1 as u64, put.2 as u64))
+    };
+    let equal = |k: usize| puts[..k].iter().any(|put| put.1 == puts[k].1);
+    let longest = |piece: &Piece| piece.length() == 65_536;
+    [
+        (pieces.is_empty(), "no pieces"),
+        (pieces.len() == 64, "64 pieces"),
+        (!pieces.is_empty() && puts.is_empty(), "no puts"),
+        ((0..puts.len()).any(equal), "shared data"),
+        ((0..puts.len()).any(|k| meet(k) && !equal(k)), "overlapping data"),
+        (puts.windows(2).any(|pair| pair[1].1 < pair[0].1), "data in another order"),
+        (puts.iter().any(|put| put.1 < 16 * put.0), "backward offset"),
+        (puts.iter().any(|put| put.1 < 16 * (pieces.len() + 1)), "data over entries"),
+        (pieces.iter().any(|piece| longest(piece) && piece.put_length() > 0), "a put of 65536 bytes"),
+        (pieces.iter().any(|piece| longest(piece) && piece.put_length() == 0), "a fill of 65536 bytes"),
+    ]
+    .into_iter()
+    .filter_map(|(holds, kind)| holds.then_some(kind))
+    .collect()
+}
+
 /// What reading or packing a plan, or adding a region, came to.
 pub fn number_kind(number: u64) -> String {
     match number {
@@ -214,12 +256,15 @@ pub fn required() -> Vec<(&'static str, String)> {
     numbers("plan_read +", &[0, 2, 3, 5, 9, 11]);
     numbers("pack_srom", &[0, 2, 3, 5, 9, 10, 11, 12]);
     numbers("pack_aplx", &[0, 2, 3, 5, 9, 10, 11, 12]);
+    numbers("aplx_read", &[0, 2, 3, 5, 9, 10, 20, 21, 22, 23]);
     numbers("flood_fill_start", &[0, 24, 25]);
     numbers("flood_fill_block_start", &[0, 24, 26, 27, 28]);
     numbers("flood_fill_block_data", &[0, 24]);
     numbers("flood_fill_block_end", &[24, 29]);
     numbers("series SROM", &[4, 9]);
     numbers("series APLX", &[4, 9]);
+    numbers("series old image", &[4, 9]);
+    numbers("series packed again", &[4, 9]);
     let mut words = |call, list: &[&str]| {
         all.extend(list.iter().map(|what| (call, what.to_string())));
     };
@@ -241,6 +286,13 @@ pub fn required() -> Vec<(&'static str, String)> {
     }
     words("series SROM", &["stop end", "stop run ARM", "stop run Thumb"]);
     words("series APLX", &["stop end", "stop run ARM", "stop run Thumb"]);
+    words("series old image", &["stop end", "stop run ARM", "stop run Thumb"]);
+    words("series packed again", &["stop end", "stop run ARM", "stop run Thumb"]);
+    words("aplx_read", &["no pieces", "64 pieces", "no puts", "packed to the same bytes"]);
+    words("aplx_read", &["shared data", "overlapping data", "data in another order"]);
+    words("aplx_read", &["backward offset", "data over entries"]);
+    words("aplx_read", &["a put of 65536 bytes", "a fill of 65536 bytes"]);
+    words("aplx_read", &["refused  2, entry 64", "refused 20, entry 64", "refused 21, entry 64"]);
     words("flood_fill_block_start", &["ignored"]);
     words("flood_fill_block_data", &["ignored"]);
     words("flood_fill_block_end", &["missing", "done"]);

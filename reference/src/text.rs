@@ -35,7 +35,7 @@ fn kinds(name: &str) -> Option<&'static [Kind]> {
         "aplx_load" => &[Table, Memory, WORD],
         "scp_answer" => &[Table, Memory, WORD, WORD, WORD, WORD, WORD, Input, Output],
         "plan_read" => &[Input, WORD],
-        "pack_srom" | "pack_aplx" => &[Input, Output],
+        "pack_srom" | "pack_aplx" | "aplx_read" => &[Input, Output],
         "map_sound" => &[Table, LONG],
         "lookup" => &[Table, Number(4), WORD, LONG],
         "run_entry" => &[Table, WORD],
@@ -46,8 +46,8 @@ fn kinds(name: &str) -> Option<&'static [Kind]> {
     })
 }
 
-/// The buffers as the last call left them. A rom, a packet and a plan are inputs; a receiver is a table, and an image that
-/// is received a memory.
+/// The buffers as the last call left them. A rom, a packet, a plan and an image that is read back are inputs; a receiver is a
+/// table, and an image that is received a memory.
 #[derive(Default)]
 pub struct Buffers {
     pub table: Vec<u8>,

@@ -12,12 +12,15 @@ use reference::generate::{case_of, Call, Case, Flood, Sent, Size};
 use reference::interface::{table_of, Library, Outcome, Reference};
 use reference::map::{Map, Region, Rights};
 use reference::random::Random;
+use reference::read_back;
 use reference::tally::{
-    call_of, flood_kind, load_kind, number_kind, reply_kind, required, rights_kind, table_kind, Tally,
+    call_of, flood_kind, load_kind, number_kind, read_back_kinds, read_kinds, reply_kind, required, rights_kind,
+    table_kind, Tally,
 };
 use reference::text::write_bytes;
 
 mod flood_vectors;
+mod read_back_vectors;
 
 /// The first line of the file.
 const HEAD: &str = "# Calls that the reference writes (reference/vectors). The head of the file `cases` says how they are \
@@ -39,6 +42,7 @@ fn beyond(call: &str, what: &str) -> bool {
         || what.starts_with("taken")
         || what.starts_with("identity")
         || (call == "map_sound" && (what == "accepted" || what.starts_with("refused")))
+        || (call == "aplx_read" && (what == "a put of 65536 bytes" || what == "packed to the same bytes"))
         || (call == "srom_load" && what == "refused 13")
         || (call == "aplx_load" && what == "refused  7")
 }
@@ -193,7 +197,23 @@ impl Vectors {
                     self.write(record);
                 }
             }
-            Case::Series { .. } | Case::FloodFill(_) => {}
+            Case::AplxRead { image, output, .. } => {
+                let mut after = output.clone();
+                Reference.aplx_read(image, &mut after, &mut outcome);
+                let mut kinds = read_kinds(&outcome);
+                if let (0, Ok(pieces)) = (outcome[0], read_back::pieces(image)) {
+                    kinds.extend(read_back_kinds(&pieces).iter().map(|kind| kind.to_string()));
+                }
+                let mut wanted = always;
+                for kind in kinds {
+                    wanted |= self.wants("aplx_read", kind);
+                }
+                if wanted {
+                    let record = Record::new("aplx_read").slice(image).slice(output);
+                    self.write(record);
+                }
+            }
+            Case::Series { .. } | Case::OldImage { .. } | Case::FloodFill(_) => {}
         }
     }
 
@@ -333,6 +353,9 @@ fn main() {
     }
     for flood in flood_vectors::all(&mut random) {
         vectors.add_flood(&flood);
+    }
+    for case in read_back_vectors::all(&mut random) {
+        vectors.add(&case, true);
     }
     let mut missing = vectors.tally.missing(&required());
     missing.retain(|(call, what)| !beyond(call, what));

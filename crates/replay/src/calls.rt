@@ -23,7 +23,7 @@ fn load_of(line: &[u8]) -> u32 {
     0
 }
 
-// The number of the call on a plan, or 0.
+// The number of the call on a plan or an image, or 0.
 fn plan_of(line: &[u8]) -> u32 {
     if behind_word(line, b"plan_read ") != NONE {
         return 5;
@@ -33,6 +33,9 @@ fn plan_of(line: &[u8]) -> u32 {
     }
     if behind_word(line, b"pack_aplx ") != NONE {
         return 7;
+    }
+    if behind_word(line, b"aplx_read ") != NONE {
+        return 15;
     }
     0
 }
@@ -90,8 +93,8 @@ fn kind(kinds: &[u8], index: usize) -> u8 {
     if index < kinds.len() { kinds[index] } else { 0 }
 }
 
-// The kind of a call's argument: t a table, f a flood-fill receiver, m a memory or an image, i an input (a rom, a packet or a plan), o an output,
-// 4 and 8 a number of so many bytes, r a right; 0 behind the last one, and n where there is no such call.
+// The kind of a call's argument: t a table, f a flood-fill receiver, m a memory or a flood-fill image, i an input (a rom, a packet, a plan or an
+// APLX image), o an output, 4 and 8 a number of so many bytes, r a right; 0 behind the last one, and n where there is no such call.
 fn kind_of(call: u32, index: usize) -> u8 {
     match call {
         1 => kind(b"t4444", index),
@@ -108,6 +111,7 @@ fn kind_of(call: u32, index: usize) -> u8 {
         12 => kind(b"fm44", index),
         13 => kind(b"fm444", index),
         14 => kind(b"fm4", index),
+        15 => kind(b"io", index),
         _ => b'n',
     }
 }

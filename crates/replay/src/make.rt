@@ -34,7 +34,8 @@ fn made(
         11 => flood_fill::start(numbers, table, memory),
         12 => flood_fill::block_start(numbers, table, memory),
         13 => flood_fill::block_data(numbers, table, memory),
-        _ => flood_fill::block_end(numbers, table, memory),
+        14 => flood_fill::block_end(numbers, table, memory),
+        _ => library::aplx_read(input, out),
     }
 }
 

@@ -4,11 +4,13 @@ mod flood_damage;
 mod floods;
 mod images;
 mod maps;
+mod old_images;
 mod packets;
 mod pictures;
 mod plans;
 mod receivers;
 mod roms;
+mod slices;
 mod stretches;
 
 pub use floods::{lent_whole, Flood, Sent, Whole};
@@ -30,7 +32,11 @@ pub enum Case {
     PlanRead { plan: Vec<u8>, target: u32 },
     PackSrom { plan: Vec<u8>, output: Vec<u8> },
     PackAplx { plan: Vec<u8>, output: Vec<u8> },
+    /// `packed`: the image is just what the packer writes of a plan.
+    AplxRead { image: Vec<u8>, output: Vec<u8>, packed: bool },
     Series { plan: Vec<u8>, table: Vec<u8>, memory: Vec<u8>, medium: Medium, steps: Vec<Step> },
+    /// An image in memory at `old`, and the packed image of the plan that is read from it at `new`.
+    OldImage { image: Vec<u8>, table: Vec<u8>, memory: Vec<u8>, old: u32, new: u32, steps: Vec<Step> },
     FloodFill(Flood),
 }
 
@@ -53,7 +59,9 @@ pub enum Call {
     PlanRead,
     PackSrom,
     PackAplx,
+    AplxRead,
     Series,
+    OldImage,
     FloodFill,
 }
 
@@ -68,14 +76,16 @@ pub fn case_of(call: Call, random: &mut Random, size: Size) -> Case {
         Call::PlanRead => plans::read(random, size),
         Call::PackSrom => plans::pack_srom(random, size),
         Call::PackAplx => plans::pack_aplx(random, size),
+        Call::AplxRead => slices::read(random, size),
         Call::Series => stretches::series(random),
+        Call::OldImage => old_images::old_image(random),
         Call::FloodFill => Case::FloodFill(floods::flood(random, size)),
     }
 }
 
 /// An input of any call.
 pub fn case(random: &mut Random) -> Case {
-    let call = match random.below(106) {
+    let call = match random.below(118) {
         0..=8 => Call::MapAdd,
         9..=12 => Call::MapSound,
         13..=27 => Call::SromLoad,
@@ -85,7 +95,9 @@ pub fn case(random: &mut Random) -> Case {
         76..=84 => Call::PackSrom,
         85..=93 => Call::PackAplx,
         94..=99 => Call::Series,
-        _ => Call::FloodFill,
+        100..=105 => Call::FloodFill,
+        106..=114 => Call::AplxRead,
+        _ => Call::OldImage,
     };
     case_of(call, random, Size::Free)
 }

@@ -50,7 +50,12 @@ fn output(
     unit: u32,
     length: fn(&[Piece]) -> u64,
 ) -> Vec<u8> {
-    let exact = plan::read(plan, unit).map_or(64, |pieces| length(&pieces)) as usize;
+    let exact = plan::read(plan, unit).map_or(64, |pieces| length(&pieces));
+    room(random, size, exact as usize)
+}
+
+/// An output for so many bytes.
+pub fn room(random: &mut Random, size: Size, exact: usize) -> Vec<u8> {
     let most = if size == Size::Stored { 1_200 } else { usize::MAX };
     let room = match random.below(10) {
         0..=3 => exact,
@@ -63,7 +68,7 @@ fn output(
 }
 
 /// A plan whose lengths mostly are multiples of the unit.
-fn plan(random: &mut Random, size: Size, unit: u32) -> Vec<u8> {
+pub fn plan(random: &mut Random, size: Size, unit: u32) -> Vec<u8> {
     match random.below(60) {
         0 => return random.bytes_below(40),
         1 => {

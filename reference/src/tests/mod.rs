@@ -7,6 +7,7 @@ mod loads;
 mod maps;
 mod outcomes;
 mod plans;
+mod read_back;
 mod receivers;
 mod slips;
 mod text;

@@ -67,3 +67,16 @@ fn plans() {
     assert_eq!(Reference.pack_srom(&plan, &mut [], &mut numbers), 2);
     assert_eq!(numbers, [2, 0, 0, 0, 0, 0, 0, 0]);
 }
+
+#[test]
+fn images_read_back() {
+    let mut image: Vec<u8> = [3, 0, 32, 7, 4, 1, 0, 0, u32::MAX, 0, 0, 0].iter().flat_map(|w| w.to_le_bytes()).collect();
+    let mut numbers = [9; 8];
+    assert_eq!(Reference.aplx_read(&image, &mut [0; 48], &mut numbers), 0);
+    assert_eq!(numbers, [0, 0, 8, 0, 0, 0, 0, 48]);
+    assert_eq!(Reference.aplx_read(&image, &mut [0; 47], &mut numbers), 10);
+    assert_eq!(numbers, [10, 2, 0, 0, 0, 0, 0, 48]);
+    image[16] = 1;
+    assert_eq!(Reference.aplx_read(&image, &mut [], &mut numbers), 20);
+    assert_eq!(numbers, [20, 1, 0, 0, 0, 0, 0, 0]);
+}
