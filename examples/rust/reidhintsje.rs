@@ -27,6 +27,9 @@ mod linked {
         pub fn reidhintsje_pack_aplx(
             plan: *const u8, plan_length: usize, output: *mut u8, output_length: usize, outcome: *mut u64,
         ) -> u32;
+        pub fn reidhintsje_aplx_read(
+            image: *const u8, image_length: usize, output: *mut u8, output_length: usize, outcome: *mut u64,
+        ) -> u32;
         pub fn reidhintsje_flood_fill_start(
             receiver: *mut u8, image: *const u8, image_length: usize, last_block: u32, block_size: u32,
             outcome: *mut u64,
@@ -50,6 +53,9 @@ pub const RECEIVER_BYTES: usize = 1544;
 
 /// A flood-fill receiver; all zeros is the empty one.
 pub type Receiver = [u8; RECEIVER_BYTES];
+
+/// The refusal whose bytes() is the length that the output has to have.
+pub const OUTPUT_TOO_SMALL: u32 = 10;
 
 /// Rights of a region; add up those that are given.
 pub const MAY_READ: u32 = 1;
@@ -218,6 +224,13 @@ pub fn pack_srom(plan: &[u8], output: &mut [u8]) -> Outcome {
 pub fn pack_aplx(plan: &[u8], output: &mut [u8]) -> Outcome {
     call(|outcome| unsafe {
         linked::reidhintsje_pack_aplx(plan.as_ptr(), plan.len(), output.as_mut_ptr(), output.len(), outcome)
+    })
+}
+
+/// An APLX image read back as a plan, at the output's front.
+pub fn aplx_read(image: &[u8], output: &mut [u8]) -> Outcome {
+    call(|outcome| unsafe {
+        linked::reidhintsje_aplx_read(image.as_ptr(), image.len(), output.as_mut_ptr(), output.len(), outcome)
     })
 }
 
