@@ -142,15 +142,16 @@ uint32_t reidhintsje_plan_read(const uint8_t *plan, size_t plan_length, uint32_t
 uint32_t reidhintsje_pack_srom(const uint8_t *plan, size_t plan_length, uint8_t *output, size_t output_length, uint64_t *outcome);
 uint32_t reidhintsje_pack_aplx(const uint8_t *plan, size_t plan_length, uint8_t *output, size_t output_length, uint64_t *outcome);
 
-/* Reads an APLX image back as a plan, at the output's front; the output past the plan is left as it was. The image is the whole slice, with
- * its header at offset 0; other bytes may follow. RCOPY becomes put, FILL fill, EXEC run, one piece for each entry up to the first end
- * word; the unused words of EXEC and of the end entry are ignored. The data of an RCOPY stands at (16 x the entry's index + its offset)
- * modulo 2^32, counted from the image's first byte, also before its entry or over entries. The plan has its table directly behind its
- * header, then the data of the puts in order. PACKED with BYTES.
- * Refusals of an entry, PLACE its index, in this order: 2 where its 16 bytes are not in the slice; 20 for ACOPY or an unknown word; 21
- * for a 65th piece; 9 for a run address with bits 1:0 = 2; 5 for length zero; 22 for a length that is not a multiple of 32, or over
- * 65536; 3 where the destination, or the offset of an RCOPY, is not a multiple of 4; 23 where the data of an RCOPY does not lie in the
- * slice. Last, 10 where the plan does not fit: PLACE is the count of its pieces, BYTES the length that it has. */
+/* Reads an APLX image back as a plan, at the output's front; the output past the plan is left as it was. The image's header stands at the
+ * slice's front; bytes behind its data change nothing. RCOPY becomes put, FILL fill, EXEC run, one piece for each entry up to the first
+ * end word; the unused words of EXEC and of the end entry are ignored. The data of an RCOPY stands at (16 x the entry's index + its
+ * offset) modulo 2^32, counted from the image's first byte, anywhere in the slice, also before its entry or over entries. The plan has its
+ * table directly behind its header, then the data of the puts in order, at offset 16 + 16 x the count. PACKED with BYTES.
+ * Refusals of an entry, PLACE its index, in this order: 2 where its 16 bytes, also those of the end entry, are not in the slice; 20 for
+ * ACOPY or an unknown word (the end word is none); 21 for a 65th piece; 9 for a run address with bits 1:0 = 2; 5 for length zero; 22 for
+ * a length that is not a multiple of 32, or over 65536; 3 where the destination, or the offset of an RCOPY, is not a multiple of 4; 23
+ * where the data of an RCOPY does not lie in the slice. Last, 10 where the plan does not fit: PLACE is the count of its pieces, BYTES the
+ * length that it has. */
 uint32_t reidhintsje_aplx_read(const uint8_t *image, size_t image_length, uint8_t *output, size_t output_length, uint64_t *outcome);
 
 /* ---- flood fill: ACCEPTED, IGNORED, MISSING or DONE

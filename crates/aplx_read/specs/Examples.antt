@@ -46,6 +46,8 @@ record Images : Type 0 where
   pub over-entries : readImage (one 2 8192 0 32) ≡ pieces (put 8192 (one 2 8192 0 32) ∷ [])
   pub backwards : readImage (fourBytes 4 8193 0 0 ++ one 2 8192 0xfffffff0 32)
       ≡ pieces (run 8193 ∷ put 8192 (fourBytes 4 8193 0 0 ++ fourBytes 2 8192 0xfffffff0 32) ∷ [])
+  -- a Thumb entry, as written
+  pub thumb : readImage (one 4 8195 0 0) ≡ pieces (run 8195 ∷ [])
   -- the longest length
   pub longest : readImage (one 3 8192 65536 5) ≡ pieces (fill 8192 65536 5 ∷ [])
 
@@ -59,6 +61,7 @@ images = record {
   overlapping = refl;
   over-entries = refl;
   backwards = refl;
+  thumb = refl;
   longest = refl;
 }
 
@@ -77,6 +80,9 @@ record Refusals : Type 0 where
   pub unaligned : readImage (one 3 8193 32 5) ≡ refused 3 0
   pub unaligned-offset : readImage (one 2 8192 2 64) ≡ refused 3 0
   pub outside : readImage (one 2 8192 4 32) ≡ refused 23 0
+  -- the length before the destination, the destination before the data
+  pub length-first : readImage (one 2 8193 4 33) ≡ refused 22 0
+  pub destination-first : readImage (one 2 8193 4 32) ≡ refused 3 0
   -- only the start of the data wraps
   pub far-outside : readImage (one 2 8192 0xffffffe0 64) ≡ refused 23 0
   -- the second entry
@@ -98,6 +104,8 @@ refusals = record {
   unaligned = refl;
   unaligned-offset = refl;
   outside = refl;
+  length-first = refl;
+  destination-first = refl;
   far-outside = refl;
   second = refl;
 }
@@ -105,13 +113,14 @@ refusals = record {
 -- ---- 64 pieces, and an entry behind them
 record Limits : Type 0 where
   pub sixty-four : readImage (runs 64 ++ end) ≡ pieces (replicate 64 (run 8193))
+  pub no-sixty-fifth : readImage (runs 64) ≡ refused 2 64
   pub sixty-five : readImage (runs 65 ++ end) ≡ refused 21 64
   pub sixty-fifth-unknown : readImage (runs 64 ++ one 1 8192 0 32) ≡ refused 20 64
   pub sixty-fifth-empty : readImage (runs 64 ++ one 3 8192 0 0) ≡ refused 21 64
 
 limits : Limits
 unfolding group.reader end one runs
-limits = record { sixty-four = refl; sixty-five = refl; sixty-fifth-unknown = refl; sixty-fifth-empty = refl }
+limits = record { sixty-four = refl; no-sixty-fifth = refl; sixty-five = refl; sixty-fifth-unknown = refl; sixty-fifth-empty = refl }
 
 -- ---- the plan
 record Plans : Type 0 where

@@ -10,7 +10,8 @@ use plan::piece::fill_length;
 use plan::piece::put_length;
 use plan::read::Answer;
 
-// The number of pieces and the sums of their lengths, or the refusal of an entry. Every entry is tested.
+// The number of pieces and the sums of their lengths, or the refusal of the first entry that is none. The 65th entry ends the loop: it is the
+// end or is refused.
 pub fn read(image: &[u8]) -> Answer
     ensures { λ r. ⌜ outcomeIs r ≡ outcomeOf (readImage (now (image .entry))) ⌝ }
 {

@@ -11,9 +11,9 @@ use Rattle.plan.specs.Plan.{Piece, Read, refused, pieces, readPlan}
 
 pub data Packed : Type 0 where
   refuses : ℕ → ℕ → Packed  -- number, place
-  packs : List ℕ → Packed  -- the image
+  packs : List ℕ → Packed  -- what is written
 
--- a plan that was read, packed as this image into an output of n bytes: "Last, 10", with "the piece count" as its place
+-- pieces that were read, written as this image into an output of n bytes: "Last, 10", with "the piece count" as its place
 abbrev pub packedAs : (List Piece → List ℕ) → Read → ℕ → Packed
 packedAs image (refused x i) n = refuses x i
 packedAs image (pieces ps) n =

@@ -59,13 +59,14 @@ dataAt s = littleEndianAt 4 s 8
 abbrev pub dataLength : List ℕ → ℕ
 dataLength s = littleEndianAt 4 s 12
 
--- a row of the piece table that passed the tests of one piece; the offset is the plan's
+-- a row of the piece table that passed the tests of one piece; the offset is that of the slice in which the data stands, the plan's or an
+-- image's
 pub data Row : Type 0 where
   putRow : ℕ → ℕ → ℕ → Row  -- address, offset of the data, length
   fillRow : ℕ → ℕ → ℕ → Row  -- address, length, word
   runRow : ℕ → Row  -- address
 
--- the piece of a row of the plan s
+-- the piece of a row, with its data in s
 abbrev pub pieceIn : List ℕ → Row → Piece
 pieceIn s (putRow a o n) = put a (take n (drop o s))
 pieceIn s (fillRow a n w) = fill a n w

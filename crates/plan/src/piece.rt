@@ -22,7 +22,7 @@ pub enum Target {
     Any,
 }
 
-// A put's data stands in the plan from an offset on.
+// A put's data stands in the plan, or in the image that was read back, from an offset on.
 pub enum Piece {
     Put {
         address: u32,

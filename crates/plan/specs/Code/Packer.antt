@@ -11,7 +11,7 @@ use Rattle.plan.specs.declared.packed.Answer.the-variants as answer
 use Rattle.plan.specs.Plan.{Piece, Read, pieces}
 use Rattle.plan.specs.Packed.{piecesIn, Outcome, refusal, sized}
 
--- a piece of the plan s that can be written to a medium with this unit
+-- a piece with its data in s that can be written to a medium with this unit
 abbrev pub Writable : ℕ → List ℕ → code-piece.Piece → Type 0
 Writable unit s (Put a o n) = (o + n ≤ length s) × (n % unit ≡ 0) × (n ≤ 65536)
 Writable unit s (Fill a n w) = (n % unit ≡ 0) × (n ≤ 65536)
