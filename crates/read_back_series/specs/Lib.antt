@@ -3,3 +3,4 @@ pub mod Claims
 pub mod Proof
 pub mod Ours
 pub mod Exact
+pub mod Refuted
