@@ -1,8 +1,22 @@
--- What holds of ours, the software of which demand 3 holds and the reader that the promise of `aplx_read` cites: the claims.
+-- What holds of ours: of the software of which demand 3 holds, and of the reader that the promise of `aplx_read` cites.
+use mathlib.Core.Path.{_≡_}
+use mathlib.Core.List.{List}
+use Prim.Native.Nat.{ℕ, _≤_}
+use lib.ListN.{length}
+use Rattle.words.specs.Bytes.{Bytes}
+use Rattle.plan.specs.Packed.{packs}
+use Rattle.aplx_pack.specs.Image.{packAplx}
 use Rattle.series.specs.Software as software
 use Rattle.aplx_read.specs.ReadBack.{readBack}
 use Rattle.read_back_series.specs.Claims.{Claims}
-use Rattle.read_back_series.specs.Proof.{restores, returns}
+use Rattle.read_back_series.specs.Proof as proof
 
 pub ours : Claims software.ours readBack
-ours = record { restores = restores; returns = returns }
+ours = record { restores = proof.restores; returns = proof.returns }
+
+-- a plan that was read back is bytes, as demand 3 asks of a plan; and its packed image is read back as the same plan
+pub plan-again :
+    (image : List ℕ) (room : ℕ) (plan : List ℕ) → Bytes image → readBack image room ≡ packs plan
+    → Bytes plan
+    × ((packed : List ℕ) (n : ℕ) → packAplx plan n ≡ packs packed → (m : ℕ) → length plan ≤ m → readBack packed m ≡ packs plan)
+plan-again image room plan b h = (proof.bytes-read image room plan b h, proof.read-again image room plan b h)

@@ -1,13 +1,17 @@
--- Laws of images that carry pieces: their entries lie within them, and from each piece's entry on they carry the pieces from it on.
-use mathlib.Core.Path.{_≡_, ap, _∙_}
+-- Laws of images that carry pieces: their entries lie within them, from each piece's entry on they carry the pieces from it on, and what
+-- they carry of bytes is bytes.
+use mathlib.Core.Path.{_≡_, ap, subst, _∙_}
 use mathlib.Core.List.{List, [], _∷_, _++_}
 use Prim.Native.Nat.{ℕ, zero, suc, _+_, _*_, _≤_, _<_}
 use native.Mathlib.Omega.{arith}
 use lib.ListN.{length, drop, length-append, length-drop}
 use Rattle.words.specs.declared.four.Four.{Four}
+use Rattle.words.specs.Choice.{All}
+use Rattle.words.specs.Choice.Laws.{all-take, all-drop}
+use Rattle.words.specs.Bytes.{Bytes}
 use Rattle.words.specs.Four.{fourBytes}
 use Rattle.words.specs.Four.Laws.{length-fourBytes, four-here}
-use Rattle.plan.specs.Plan.{Piece, put, fill, run}
+use Rattle.plan.specs.Plan.{Piece, put, fill, run, dataOf}
 use Rattle.aplx_image.specs.Carries.{EntryAt, EndAt, Says, Carries}
 
 -- four words that stand at offset k are the entry there
@@ -41,3 +45,14 @@ carries-drop image (suc i) k [] h c = absurd (omega arith)
 carries-drop image (suc i) k (p ∷ ps) h c =
     let e : k + 16 * suc i ≡ k + 16 + 16 * i = omega arith in
     rw e (carries-drop image i (k + 16) ps (omega arith) (c .1))
+
+-- the data of puts is bytes of the image
+module _ (image : List ℕ) (b : Bytes image) where
+  says-bytes : (k : ℕ) (p : Piece) → Says image k p → Bytes (dataOf p)
+  says-bytes k (put a d) s = subst Bytes (s .bytes) (all-take _ (length d) (drop (s .source) image) (all-drop _ (s .source) image b))
+  says-bytes k (fill a n w) s = tt
+  says-bytes k (run a) s = tt
+
+  pub carries-bytes : (k : ℕ) (ps : List Piece) → Carries image k ps → All (λ p. Bytes (dataOf p)) ps
+  carries-bytes k [] c = tt
+  carries-bytes k (p ∷ ps) c = (says-bytes k p (c .0), carries-bytes (k + 16) ps (c .1))
