@@ -16,6 +16,8 @@ Reader = List ℕ → ℕ → Packed
 
 -- of an image, and the plan that was read back from it
 pub record Restores (s : Software) (image plan : List ℕ) : Type 0 where
+  -- it is bytes, as demand 3 asks of a plan
+  pub bytes : Bytes plan
   -- "The APLX packer, given room, accepts the plan that was read"
   pub packed : List ℕ
   pub accepted : (room : ℕ) → length packed ≤ room → s .packAplx plan room ≡ packs packed

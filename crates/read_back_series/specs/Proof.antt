@@ -7,7 +7,8 @@ use lib.ListN.{length}
 use Rattle.words.specs.Choice.{All}
 use Rattle.words.specs.Bytes.{Bytes}
 use Rattle.plan.specs.Plan.{Piece, readPlan, pieces}
-use Rattle.plan.specs.Plan.Laws.{Packable, packable, read-header, read-count}
+use Rattle.plan.specs.Packable.{Packable}
+use Rattle.plan.specs.Plan.Laws.{packable, read-header, read-count}
 use Rattle.plan.specs.Packed.{packs}
 use Rattle.aplx_image.specs.Carries.{Carries}
 use Rattle.aplx_image.specs.Carries.Laws.{carries-bytes}
@@ -55,6 +56,7 @@ pub restores : (image : List ℕ) (room : ℕ) (plan : List ℕ) → Bytes image
 restores image room plan b h =
     let p = pieces-of image room plan b h in
     record {
+      bytes = subst Bytes (sym (p .is-plan)) (plan-bytes (p .read) (carries-bytes image b 0 (p .read) (p .carried)));
       packed = aplxImage (p .read);
       accepted = λ n l. read-packed plan n (p .are-read) l;
       demand = λ a. carried-holds a plan (p .read) image (p .are-read) (omega (arith, p .few)) (p .good) (p .carried);
@@ -72,20 +74,16 @@ returns plan room image b h =
       same-bytes = λ n l. read-packed (planBytes ps) n (plan-read 32 ps g few) l;
     })
 
--- ---- what is more
-module _ (image : List ℕ) (room : ℕ) (plan : List ℕ) (b : Bytes image) (h : readBack image room ≡ packs plan) where
-  pub bytes-read : Bytes plan
-  bytes-read =
-      let p = pieces-of image room plan b h in
-      subst Bytes (sym (p .is-plan)) (plan-bytes (p .read) (carries-bytes image b 0 (p .read) (p .carried)))
-
-  pub read-again : (packed : List ℕ) (n : ℕ) → packAplx plan n ≡ packs packed → (m : ℕ) → length plan ≤ m → readBack packed m ≡ packs plan
-  read-again packed n e m l =
-      let p = pieces-of image room plan b h in
-      let f = packed-facts plan n e in
-      let x = f .are-read in
-      let y = p .are-read in
-      let q : f .read ≡ p .read = cc in
-      let z : packed ≡ aplxImage (p .read) = f .is-image ∙ ap aplxImage q in
-      let fits : length (planBytes (p .read)) ≤ m = subst (λ (s : List ℕ). length s ≤ m) (p .is-plan) l in
-      ap (λ (s : List ℕ). readBack s m) z ∙ read-plan (aplxImage (p .read)) m (packed-read (p .read) (p .good) (p .few)) fits ∙ ap packs (sym (p .is-plan))
+-- ---- its packed image is read back as the same plan
+pub read-again :
+    (image : List ℕ) (room : ℕ) (plan : List ℕ) → Bytes image → readBack image room ≡ packs plan
+    → (packed : List ℕ) (n : ℕ) → packAplx plan n ≡ packs packed → (m : ℕ) → length plan ≤ m → readBack packed m ≡ packs plan
+read-again image room plan b h packed n e m l =
+    let p = pieces-of image room plan b h in
+    let f = packed-facts plan n e in
+    let x = f .are-read in
+    let y = p .are-read in
+    let q : f .read ≡ p .read = cc in
+    let z : packed ≡ aplxImage (p .read) = f .is-image ∙ ap aplxImage q in
+    let fits : length (planBytes (p .read)) ≤ m = subst (λ (s : List ℕ). length s ≤ m) (p .is-plan) l in
+    ap (λ (s : List ℕ). readBack s m) z ∙ read-plan (aplxImage (p .read)) m (packed-read (p .read) (p .good) (p .few)) fits ∙ ap packs (sym (p .is-plan))

@@ -8,7 +8,7 @@ use lib.ListN.{length, drop, length-append, length-drop}
 use lib.Seq.{drop-at, drop-drop}
 use Rattle.words.specs.Choice.{All}
 use Rattle.plan.specs.Plan.{Piece, put, fill, run, dataOf, datas}
-use Rattle.plan.specs.Plan.Laws.{Packable}
+use Rattle.plan.specs.Packable.{Packable}
 use Rattle.plan.specs.Plan.Sums.{bytes-most}
 use Rattle.aplx_image.specs.Carries.{Says, Carries}
 use Rattle.aplx_image.specs.Carries.Laws.{entry-here}

@@ -11,7 +11,7 @@ use Rattle.words.specs.Choice.{All}
 use Rattle.words.specs.Four.{fourBytes}
 use Rattle.words.specs.Four.Laws.{length-fourBytes, four-here}
 use Rattle.plan.specs.Plan.{Piece, put, fill, run, dataOf, putBytes, datas, countOf, tableOf, dataAt, dataLength, Row, putRow, fillRow, runRow, pieceIn, good, pieceAt, pieces, readPieces, readPlan}
-use Rattle.plan.specs.Plan.Laws.{Packable}
+use Rattle.plan.specs.Packable.{Packable}
 use Rattle.plan.specs.Plan.Accepts.{piece-words, put-good, fill-good, run-good, read-none, read-more, header-read}
 use Rattle.plan.specs.Plan.Sums.{bytes-most}
 use Rattle.aplx_read.specs.PlanBytes.{rowBytes, table, planBytes}

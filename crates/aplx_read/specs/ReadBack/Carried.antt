@@ -11,7 +11,8 @@ use Rattle.words.specs.Choice.{if_then_else_, All}
 use Rattle.words.specs.Choice.Laws.{from-else, from-then, from-either}
 use Rattle.words.specs.Bytes.{littleEndianAt, Bytes}
 use Rattle.plan.specs.Plan.{Piece, put, fill, run, Row, putRow, fillRow, runRow, pieceIn, Read, refused, pieces}
-use Rattle.plan.specs.Plan.Laws.{Sized, Packable, row-packable}
+use Rattle.plan.specs.Packable.{Sized, Packable}
+use Rattle.plan.specs.Plan.Laws.{row-packable}
 use Rattle.plan.specs.Plan.Steps.{refused-no-pieces}
 use Rattle.aplx_image.specs.Carries.{EntryAt, EndAt, Says, Carries}
 use Rattle.aplx_read.specs.ReadBack.{Entry, piece, last, bad, limited, executed, stored, source, copied, entryOf, entryAt, next, readEntries, readImage}

@@ -12,7 +12,8 @@ use Rattle.words.specs.Choice.Laws.{from-else}
 use Rattle.words.specs.Bytes.{littleEndianAt, Bytes}
 use Rattle.words.specs.Bytes.Laws.{little-at-below}
 use Rattle.plan.specs.Plan.{Row, putRow, fillRow, runRow, pieceIn}
-use Rattle.plan.specs.Plan.Laws.{Sized, Passed, data-length}
+use Rattle.plan.specs.Packable.{Sized}
+use Rattle.plan.specs.Plan.Laws.{Passed, data-length}
 use Rattle.aplx_image.specs.Carries.{EntryAt, Says}
 use Rattle.aplx_read.specs.ReadBack.{Entry, piece, bad, limited, executed, stored, source, copied, entryOf, entryAt}
 use Rattle.aplx_read.specs.ReadBack.Laws.{bad-no-piece, last-no-piece}

@@ -17,7 +17,8 @@ use Rattle.plan.specs.declared.piece.Piece.the-variants.{Put, Fill, Run}
 use Rattle.plan.specs.declared.read.Answer as code-answer
 use Rattle.plan.specs.declared.read.Answer.the-variants as answer
 use Rattle.plan.specs.Plan.{Piece, run, dataOf, filledBy, putBytes, fillBytes, dataAt, dataLength, pieceIn, good, pieceAt, Read, refused, pieces, readPlan}
-use Rattle.plan.specs.Plan.Laws.{Packable, Passed, row-passed, data-length, packable, read-header, read-count, read-piece}
+use Rattle.plan.specs.Packable.{Packable}
+use Rattle.plan.specs.Plan.Laws.{Passed, row-passed, data-length, packable, read-header, read-count, read-piece}
 use Rattle.plan.specs.Plan.Sums.{bytes-most}
 use Rattle.plan.specs.Packed.{piecesIn, planPieces, Accepted}
 use Rattle.plan.specs.Code.{putLength, fillLength, rowIs, rowOf, pieceIs, reads, outcomeOf, outcomeIs}

@@ -8,7 +8,8 @@ use borrow.Author.Tests.{le-ltb, eq-eqb, ne-eqb}
 use Rattle.words.specs.declared.four.Four.{Four}
 use Rattle.words.specs.Four.{fourAt}
 use Rattle.plan.specs.Plan.{Piece, countOf, tableOf, dataAt, dataLength, Row, putRow, fillRow, runRow, pieceIn, good, judgeRun, judgeFill, judgeData, judgePut, judgeKind, judgeAt, pieceAt, pieces, readPieces, readPlan}
-use Rattle.plan.specs.Plan.Laws.{Header, Sized}
+use Rattle.plan.specs.Packable.{Sized}
+use Rattle.plan.specs.Plan.Laws.{Header}
 
 module _ (unit : ℕ) (s : List ℕ) where
   -- ---- one piece

@@ -14,6 +14,7 @@ use Rattle.words.specs.Choice.Laws.{from-else, from-either}
 use Rattle.words.specs.Bytes.{littleEndianAt, Bytes}
 use Rattle.words.specs.Bytes.Laws.{little-at-below}
 use Rattle.plan.specs.Plan.{Piece, put, fill, run, countOf, tableOf, dataAt, dataLength, Row, putRow, fillRow, runRow, pieceIn, good, judgeRun, judgeFill, judgeData, judgePut, judgeKind, judgeAt, pieceAt, pieces, readPieces, readPlan}
+use Rattle.plan.specs.Packable.{Sized, Packable}
 use Rattle.plan.specs.Plan.Steps.{refused-no-pieces, bad-no-good, pieces-count, pieces-each, RowAt, pieces-at}
 
 -- ---- a plan that was read
@@ -47,14 +48,6 @@ module _ (unit : ℕ) (s : List ℕ) {ps : List Piece} (e : readPlan unit s ≡ 
   read-piece i h d = rw zero-add at (pieces-at unit s (countOf s) 0 (read-header .rest) i h d)
 
 -- ---- what a row that passed the tests is
--- an address and a length
-pub record Sized (unit a n : ℕ) : Type 0 where
-  pub some : 0 < n
-  pub most : n ≤ 65536
-  pub whole : n % unit ≡ 0
-  pub aligned : a % 4 ≡ 0
-  pub low : a < 4294967296
-
 -- the data of a put ends at an offset or before it
 abbrev pub Passed : ℕ → ℕ → Row → Type 0
 Passed unit end (putRow a o n) = Sized unit a n × (o + n ≤ end)
@@ -118,11 +111,6 @@ row-passed unit s b i =
     (from-either (eqb k 3) (run-passed unit s a n w low) (λ e. absurd (bad-no-good e))))
 
 -- ---- what an accepted piece is
-abbrev pub Packable : ℕ → Piece → Type 0
-Packable unit (put a d) = Sized unit a (length d)
-Packable unit (fill a n w) = Sized unit a n × (w < 4294967296)
-Packable unit (run a) = (a < 4294967296) × (a % 4 ≡ 2 → ⊥)
-
 -- the data of a put within the plan is as long as it says
 pub data-length : (s : List ℕ) (o n : ℕ) → o + n ≤ length s → length (take n (drop o s)) ≡ n
 data-length s o n h = length-take-le n (drop o s) (rw length-drop (omega arith))

@@ -5,7 +5,7 @@ use native.Mathlib.Omega.{arith}
 use lib.ListN.{length}
 use Rattle.words.specs.Choice.{All}
 use Rattle.plan.specs.Plan.{Piece, put, fill, run, putBytes, fillBytes}
-use Rattle.plan.specs.Plan.Laws.{Packable}
+use Rattle.plan.specs.Packable.{Packable}
 
 pub bytes-most : (unit : ℕ) (ps : List Piece) → All (Packable unit) ps → putBytes ps + fillBytes ps ≤ 65536 * length ps
 unfolding putBytes fillBytes

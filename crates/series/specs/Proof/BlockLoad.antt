@@ -31,7 +31,7 @@ use Rattle.srom.specs.Walk.Laws.{walk-pad, walk-block, walk-halt}
 use Rattle.srom.specs.Load.{storeBlocks, look, loadWith}
 use Rattle.srom.specs.Load.Laws.{sound-load}
 use Rattle.plan.specs.Plan.{Piece, put, fill, run}
-use Rattle.plan.specs.Plan.Laws.{Sized, Packable}
+use Rattle.plan.specs.Packable.{Sized, Packable}
 use Rattle.plan.specs.Plan.Sums.{bytes-most}
 use Rattle.plan.specs.Meaning.{ranged, entered, storeAt, permit, effect, effects, stretch, Finish, runs, or-deny, finish, meant, meaning}
 use Rattle.srom_pack.specs.Image.{block, blockOf, blocks, sromImage, blockAt}

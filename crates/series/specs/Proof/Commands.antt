@@ -14,7 +14,7 @@ use Rattle.outcome.specs.Outcome.{Ending}
 use Rattle.memory_map.specs.Lookup.{Lookup, at}
 use Rattle.memory_map.specs.Lookup.Laws.{Lawful}
 use Rattle.plan.specs.Plan.{Piece, put, fill, run}
-use Rattle.plan.specs.Plan.Laws.{Packable}
+use Rattle.plan.specs.Packable.{Packable}
 use Rattle.plan.specs.Meaning.{allowed, permit, effect, effects, stretch, runs, Stopped, or-deny, finish}
 use Rattle.plan.specs.Meaning.Laws.{permitted-at, stopped-first}
 use Rattle.aplx_image.specs.Carries.{Says, Carries}

@@ -20,7 +20,7 @@ use Rattle.memory_map.specs.Lookup.Laws.{Lawful}
 use Rattle.memory_map.specs.Entry as entry
 use Rattle.memory_map.specs.Entry.{legal, kindAt, runEntry}
 use Rattle.plan.specs.Plan.{Piece, put, fill, run}
-use Rattle.plan.specs.Plan.Laws.{Packable}
+use Rattle.plan.specs.Packable.{Packable}
 use Rattle.plan.specs.Meaning.{ranged, entered, permit, stretch, Finish, ends, runs, denies, or-deny, finish}
 use Rattle.aplx_image.specs.Carries.{EntryAt, Says, EndAt, Carries}
 use Rattle.aplx_command.specs.Command as command

@@ -16,7 +16,7 @@ use Rattle.memory_map.specs.Map.{sound}
 use Rattle.memory_map.specs.Lookup.{Lookup, lookup}
 use Rattle.memory_map.specs.Lookup.Laws.{lawful}
 use Rattle.plan.specs.Plan.{Piece}
-use Rattle.plan.specs.Plan.Laws.{Packable}
+use Rattle.plan.specs.Packable.{Packable}
 use Rattle.plan.specs.Meaning.{effects, stretch, Finish, ends, runs, denies, Stopped, finish, meant, meaning}
 use Rattle.aplx_image.specs.Carries.{Carries}
 use Rattle.aplx_image.specs.Carries.Laws.{carries-drop}

@@ -12,7 +12,8 @@ use Rattle.memory_map.specs.declared.map.Map.{Map}
 use Rattle.memory_map.specs.Lookup.Laws.{lawful}
 use Rattle.plan.specs.Plan as format
 use Rattle.plan.specs.Plan.{Piece, readPlan}
-use Rattle.plan.specs.Plan.Laws.{Packable, read-header, read-count, packable}
+use Rattle.plan.specs.Packable.{Packable}
+use Rattle.plan.specs.Plan.Laws.{read-header, read-count, packable}
 use Rattle.plan.specs.Plan.Unit.{read-one}
 use Rattle.plan.specs.Packed.Laws.{accepted-facts}
 use Rattle.aplx_image.specs.Carries.{Carries}
