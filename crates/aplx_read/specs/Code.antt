@@ -9,18 +9,18 @@ use Rattle.plan.specs.Packed.{piecesIn}
 use Rattle.plan.specs.Code.{rowIs}
 use Rattle.aplx_read.specs.declared.entry.Entry as code
 use Rattle.aplx_read.specs.declared.entry.Entry.the-variants as entry
-use Rattle.aplx_read.specs.ReadBack.{Entry, piece, last, bad, readImage}
+use Rattle.aplx_read.specs.ReadBack.{Entry, piece, end, bad, readImage}
 use Rattle.aplx_read.specs.PlanBytes.{rowBytes}
 
 abbrev pub entryIs : code.Entry → Entry
 entryIs (entry.Piece p) = piece (rowIs p)
-entryIs entry.End = last
+entryIs entry.End = end
 entryIs (entry.Bad n) = bad n
 
 -- the row of an entry; a run at 0 where the entry is none
 abbrev pub rowOf : Entry → Row
 rowOf (piece row) = row
-rowOf last = runRow 0
+rowOf end = runRow 0
 rowOf (bad n) = runRow 0
 
 -- the pieces of an image that was read

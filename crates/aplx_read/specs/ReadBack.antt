@@ -16,20 +16,20 @@ use Rattle.aplx_read.specs.PlanBytes.{planBytes}
 -- what an entry is
 pub data Entry : Type 0 where
   piece : Row → Entry  -- the data of a put stands in the image
-  last : Entry  -- the end word
+  end : Entry  -- the end word
   bad : ℕ → Entry  -- number
 
 -- "a 65th piece, 21": entry e, and what it is if it is not too far
-abbrev pub limited : ℕ → Entry → Entry
-limited e x = if leb 64 e then bad 21 else x
+abbrev pub judgeCount : ℕ → Entry → Entry
+judgeCount e x = if leb 64 e then bad 21 else x
 
 -- "run address with bits 1:0 = 2, 9"; "Unused EXEC words are ignored."
-unfoldable pub executed : ℕ → Entry
-executed a = if eqb (a % 4) 2 then bad 9 else piece (runRow a)
+unfoldable pub judgeExec : ℕ → Entry
+judgeExec a = if eqb (a % 4) 2 then bad 9 else piece (runRow a)
 
 -- "zero length, 5; length not a multiple of 32 or over 65,536, 22; destination .. not a multiple of 4, 3", then the rest
-unfoldable pub stored : ℕ → ℕ → Entry → Entry
-stored a n x =
+unfoldable pub judgeRange : ℕ → ℕ → Entry → Entry
+judgeRange a n x =
     if eqb n 0 then bad 5
     else if not (eqb (n % 32) 0) then bad 22
     else if ltb 65536 n then bad 22
@@ -42,32 +42,32 @@ abbrev pub source : ℕ → ℕ → ℕ
 source e offset = (16 * e + offset) % 4294967296
 
 -- "then RCOPY offset, not a multiple of 4, 3; RCOPY data outside the slice, 23"
-unfoldable pub copied : List ℕ → ℕ → ℕ → ℕ → ℕ → Entry
-copied image e a offset n =
+unfoldable pub judgeCopy : List ℕ → ℕ → ℕ → ℕ → ℕ → Entry
+judgeCopy image e a offset n =
     if not (eqb (offset % 4) 0) then bad 3
     else if ltb (length image) (source e offset + n) then bad 23
     else piece (putRow a (source e offset) n)
 
 -- the four words of entry e: "RCOPY to put, FILL to fill, EXEC to run, up to the first end word"; "ACOPY or an unknown word, 20"
-unfoldable pub entryOf : List ℕ → ℕ → ℕ → ℕ → ℕ → ℕ → Entry
-entryOf image e c x y z =
-    if eqb c 0xffffffff then last
-    else if eqb c 2 then limited e (stored x z (copied image e x y z))
-    else if eqb c 3 then limited e (stored x y (piece (fillRow x y z)))
-    else if eqb c 4 then limited e (executed x)
+unfoldable pub judgeWords : List ℕ → ℕ → ℕ → ℕ → ℕ → ℕ → Entry
+judgeWords image e c x y z =
+    if eqb c 0xffffffff then end
+    else if eqb c 2 then judgeCount e (judgeRange x z (judgeCopy image e x y z))
+    else if eqb c 3 then judgeCount e (judgeRange x y (piece (fillRow x y z)))
+    else if eqb c 4 then judgeCount e (judgeExec x)
     else bad 20
 
 -- "Per entry, in this order: 16 bytes not in the slice, 2"
 unfoldable pub entryAt : List ℕ → ℕ → Entry
 entryAt image e =
     if ltb (length image) (16 * e + 16) then bad 2
-    else entryOf image e (littleEndianAt 4 image (16 * e)) (littleEndianAt 4 image (16 * e + 4)) (littleEndianAt 4 image (16 * e + 8))
+    else judgeWords image e (littleEndianAt 4 image (16 * e)) (littleEndianAt 4 image (16 * e + 4)) (littleEndianAt 4 image (16 * e + 8))
     (littleEndianAt 4 image (16 * e + 12))
 
 -- entry e of the image, and what follows it: "A refused image names its entry."
 abbrev pub next : List ℕ → Entry → ℕ → Read → Read
 next image (piece row) e r = before (pieceIn image row) r
-next image last e r = pieces []
+next image end e r = pieces []
 next image (bad n) e r = refused n e
 
 -- so many entries at most, from entry e on

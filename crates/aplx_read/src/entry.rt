@@ -1,7 +1,7 @@
 // One entry of an image.
 ghost use mathlib.Core.Path.{_≡_};
 ghost use Rattle.plan.specs.Code.{rowIs};
-ghost use Rattle.aplx_read.specs.ReadBack.{limited, executed, stored, copied, entryOf, entryAt};
+ghost use Rattle.aplx_read.specs.ReadBack.{judgeCount, judgeExec, judgeRange, judgeCopy, judgeWords, entryAt};
 ghost use Rattle.aplx_read.specs.Code.{entryIs, rowOf};
 use memory_map::refusal::RUN_NOT_LEGAL;
 use outcome::answer::CUT_SHORT;
@@ -26,8 +26,8 @@ pub(crate) enum Entry {
 }
 
 // The 65th piece is one too many.
-fn limit(index: u32, entry: Entry) -> Entry
-    ensures { λ r. ⌜ entryIs r ≡ limited index (entryIs entry) ⌝ }
+fn judge_count(index: u32, entry: Entry) -> Entry
+    ensures { λ r. ⌜ entryIs r ≡ judgeCount index (entryIs entry) ⌝ }
 {
     if index >= 64 {
         return Entry::Bad(TOO_MANY_PIECES);
@@ -35,8 +35,8 @@ fn limit(index: u32, entry: Entry) -> Entry
     entry
 }
 
-fn exec(address: u32) -> Entry
-    ensures { λ r. ⌜ entryIs r ≡ executed address ⌝ }
+fn judge_exec(address: u32) -> Entry
+    ensures { λ r. ⌜ entryIs r ≡ judgeExec address ⌝ }
 {
     if address % 4 == 2 {
         return Entry::Bad(RUN_NOT_LEGAL);
@@ -45,8 +45,8 @@ fn exec(address: u32) -> Entry
 }
 
 // The tests of a length and a destination; then what the entry is.
-fn store(address: u32, length: u32, entry: Entry) -> Entry
-    ensures { λ r. ⌜ entryIs r ≡ stored address length (entryIs entry) ⌝ }
+fn judge_range(address: u32, length: u32, entry: Entry) -> Entry
+    ensures { λ r. ⌜ entryIs r ≡ judgeRange address length (entryIs entry) ⌝ }
 {
     if length == 0 {
         return Entry::Bad(ZERO_LENGTH);
@@ -64,8 +64,8 @@ fn store(address: u32, length: u32, entry: Entry) -> Entry
 }
 
 // The data of an RCOPY.
-fn copy(image: &[u8], index: u32, address: u32, offset: u32, length: u32) -> Entry
-    ensures { λ r. ⌜ entryIs r ≡ copied (now (image .entry)) index address offset length ⌝ }
+fn judge_copy(image: &[u8], index: u32, address: u32, offset: u32, length: u32) -> Entry
+    ensures { λ r. ⌜ entryIs r ≡ judgeCopy (now (image .entry)) index address offset length ⌝ }
 {
     if offset % 4 != 0 {
         return Entry::Bad(NOT_ALIGNED);
@@ -83,14 +83,14 @@ fn copy(image: &[u8], index: u32, address: u32, offset: u32, length: u32) -> Ent
 }
 
 // The entry with an index that has these four words.
-fn entry_of(image: &[u8], index: u32, c: u32, x: u32, y: u32, z: u32) -> Entry
-    ensures { λ r. ⌜ entryIs r ≡ entryOf (now (image .entry)) index c x y z ⌝ }
+fn judge_words(image: &[u8], index: u32, c: u32, x: u32, y: u32, z: u32) -> Entry
+    ensures { λ r. ⌜ entryIs r ≡ judgeWords (now (image .entry)) index c x y z ⌝ }
 {
     if c == 4294967295 {
         return Entry::End;
     }
     if c == 2 {
-        return limit(index, store(x, z, copy(image, index, x, y, z)));
+        return judge_count(index, judge_range(x, z, judge_copy(image, index, x, y, z)));
     }
     if c == 3 {
         let fill = Entry::Piece(Piece::Fill {
@@ -98,10 +98,10 @@ fn entry_of(image: &[u8], index: u32, c: u32, x: u32, y: u32, z: u32) -> Entry
             length: y as usize,
             word: z,
         });
-        return limit(index, store(x, y, fill));
+        return judge_count(index, judge_range(x, y, fill));
     }
     if c == 4 {
-        return limit(index, exec(x));
+        return judge_count(index, judge_exec(x));
     }
     Entry::Bad(NO_PIECE)
 }
@@ -115,11 +115,11 @@ pub(crate) fn entry_at(image: &[u8], index: u32) -> Entry
         return Entry::Bad(CUT_SHORT);
     }
     let w = words::four::read(image, at);
-    entry_of(image, index, w.first, w.second, w.third, w.fourth)
+    judge_words(image, index, w.first, w.second, w.third, w.fourth)
 }
 
 // The piece with an index of an image that was read; a run at 0 where the entry is none.
-pub(crate) fn piece_at(image: &[u8], index: u32) -> Piece
+pub(crate) fn accepted_at(image: &[u8], index: u32) -> Piece
     ensures { λ r. ⌜ rowIs r ≡ rowOf (entryAt (now (image .entry)) index) ⌝ }
 {
     match entry_at(image, index) {

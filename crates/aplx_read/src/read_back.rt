@@ -53,7 +53,7 @@ fn write_plan(image: &[u8], count: u32, puts: u32, output: &mut [u8])
     let mut offset: usize = 0;
     let mut i: u32 = 0;
     while i < count {
-        let piece = crate::entry::piece_at(image, i);
+        let piece = crate::entry::accepted_at(image, i);
         write_row(image, piece, output, 16 * (i as usize + 1), start, offset);
         offset += plan::piece::put_length(piece);
         i += 1;

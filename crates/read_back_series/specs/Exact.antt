@@ -10,7 +10,7 @@ use Rattle.plan.specs.Plan.{Piece, Read, pieces}
 use Rattle.plan.specs.Packable.{Packable}
 use Rattle.aplx_image.specs.Carries.{Carries}
 use Rattle.aplx_read.specs.ReadBack.{readImage}
-use Rattle.aplx_read.specs.ReadBack.Carried.{image-restored, carried-image-read}
+use Rattle.aplx_read.specs.ReadBack.Carried.{image-carries, carried-image-read}
 
 -- the image carries the pieces, each is one that the APLX packer accepts, and they are 64 at most
 pub record Readable (image : List ℕ) (ps : List Piece) : Type 0 where
@@ -28,6 +28,6 @@ Exact read = (image : List ℕ) → Bytes image → (ps : List Piece) → ReadsE
 
 pub read-exactly : Exact readImage
 read-exactly image b ps = record {
-  if-read = λ h. let r = image-restored image b h in record { carried = r .carried; packable = r .good; few = omega (arith, r .few) };
+  if-read = λ h. let r = image-carries image b h in record { carried = r .carried; packable = r .good; few = omega (arith, r .few) };
   read-if = λ r. carried-image-read image ps (r .carried) (r .packable) (r .few);
 }

@@ -22,7 +22,7 @@ use Rattle.aplx_read.specs.PlanBytes.Laws.{plan-bytes}
 use Rattle.aplx_read.specs.PlanBytes.Read.{plan-read}
 use Rattle.aplx_read.specs.ReadBack.{readImage, readBack}
 use Rattle.aplx_read.specs.ReadBack.Laws.{plan-facts, read-plan}
-use Rattle.aplx_read.specs.ReadBack.Carried.{image-restored, carried-image-read}
+use Rattle.aplx_read.specs.ReadBack.Carried.{image-carries, carried-image-read}
 use Rattle.read_back_series.specs.Claims.{Restores, Returns}
 
 -- the packed image of pieces is read as these
@@ -41,7 +41,7 @@ record Pieces (image plan : List ℕ) : Type 0 where
 pieces-of : (image : List ℕ) (room : ℕ) (plan : List ℕ) → Bytes image → readBack image room ≡ packs plan → Pieces image plan
 pieces-of image room plan b h =
     let f = plan-facts image room h in
-    let r = image-restored image b (f .are-read) in
+    let r = image-carries image b (f .are-read) in
     let few : length (f .read) ≤ 64 = omega (arith, r .few) in
     record {
       read = f .read;

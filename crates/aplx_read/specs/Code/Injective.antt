@@ -4,12 +4,12 @@ use Rattle.outcome.specs.Outcome.Injective.{back-injective}
 use Rattle.plan.specs.Code.Injective.{rowBack, row-back}
 use Rattle.aplx_read.specs.declared.entry.Entry as code
 use Rattle.aplx_read.specs.declared.entry.Entry.the-variants.{Piece, End, Bad}
-use Rattle.aplx_read.specs.ReadBack.{Entry, piece, last, bad}
+use Rattle.aplx_read.specs.ReadBack.{Entry, piece, end, bad}
 use Rattle.aplx_read.specs.Code.{entryIs}
 
 abbrev entryBack : Entry → code.Entry
 entryBack (piece row) = Piece (rowBack row)
-entryBack last = End
+entryBack end = End
 entryBack (bad n) = Bad n
 
 entry-back : (x : code.Entry) → entryBack (entryIs x) ≡ x

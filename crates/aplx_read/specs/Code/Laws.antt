@@ -14,7 +14,7 @@ use Rattle.plan.specs.Code.Packer.{Writable}
 use Rattle.plan.specs.Code.Laws.{Known, known-bytes, can-write, Lengths, lengths, Found, found-piece, Counted, counted-pieces}
 use Rattle.aplx_read.specs.ReadBack.{piece, entryAt, readImage}
 use Rattle.aplx_read.specs.ReadBack.Laws.{image-row}
-use Rattle.aplx_read.specs.ReadBack.Carried.{image-restored}
+use Rattle.aplx_read.specs.ReadBack.Carried.{image-carries}
 use Rattle.aplx_read.specs.ReadBack.Told.{entry-told}
 use Rattle.aplx_read.specs.Code.{rowOf, imagePieces}
 
@@ -40,4 +40,4 @@ module _ (image : List ℕ) (b : Known image) where
   pub counted : {r : code-answer.Answer} → outcomeIs r ≡ outcomeOf (readImage image) → {n p f : ℕ} → r ≡ answer.Pieces n p f → Counted (readImage image) n p f
   counted =
       counted-pieces 32 (readImage image)
-      (λ ps e. let r = image-restored image (known-bytes image b) e in (omega (arith, r .few), r .good))
+      (λ ps e. let r = image-carries image (known-bytes image b) e in (omega (arith, r .few), r .good))

@@ -14,22 +14,22 @@ use Rattle.plan.specs.Plan.Steps.{refused-no-pieces}
 use Rattle.plan.specs.Packed.{packs}
 use Rattle.plan.specs.Packed.Laws.{Fitting, accepted-facts, fitting-packed}
 use Rattle.aplx_read.specs.PlanBytes.{planBytes}
-use Rattle.aplx_read.specs.ReadBack.{Entry, piece, last, bad, entryOf, entryAt, next, readEntries, readImage, readBack}
+use Rattle.aplx_read.specs.ReadBack.{Entry, piece, end, bad, judgeWords, entryAt, next, readEntries, readImage, readBack}
 
 -- ---- what an entry is not
 pub bad-no-piece : {n : ℕ} {row : Row} → bad n ≡ piece row → ⊥
 bad-no-piece e = let z : _≡_ {A = ℕ} 0 1 = cc in omega arith
 
-pub last-no-piece : {row : Row} → last ≡ piece row → ⊥
-last-no-piece e = let z : _≡_ {A = ℕ} 0 1 = cc in omega arith
+pub end-no-piece : {row : Row} → end ≡ piece row → ⊥
+end-no-piece e = let z : _≡_ {A = ℕ} 0 1 = cc in omega arith
 
 -- there is no 65th piece
 pub sixty-fifth : (image : List ℕ) {row : Row} → entryAt image 64 ≡ piece row → ⊥
-unfolding entryAt entryOf
+unfolding entryAt judgeWords
 sixty-fifth image h =
     let c = littleEndianAt 4 image (16 * 64) in
     let t = from-else (ltb (length image) (16 * 64 + 16)) bad-no-piece h in
-    let u = from-else (eqb c 0xffffffff) last-no-piece (t .1) in
+    let u = from-else (eqb c 0xffffffff) end-no-piece (t .1) in
     from-either (eqb c 2) bad-no-piece (from-either (eqb c 3) bad-no-piece (from-either (eqb c 4) bad-no-piece bad-no-piece)) (u .1)
 
 -- ---- one step, at entry e of at most k
@@ -46,9 +46,9 @@ module _ (image : List ℕ) (k e : ℕ) (h : e < k) where
   unfolding readEntries
   read-piece t = rw (left, t, add-one e)
 
-  pub read-last : entryAt image e ≡ last → readEntries image (k - e) e ≡ pieces []
+  pub read-end : entryAt image e ≡ end → readEntries image (k - e) e ≡ pieces []
   unfolding readEntries
-  read-last t = rw (left, t)
+  read-end t = rw (left, t)
 
   pub read-bad : {n : ℕ} → entryAt image e ≡ bad n → readEntries image (k - e) e ≡ refused n e
   unfolding readEntries
@@ -65,7 +65,7 @@ pub record First (image : List ℕ) (x : Entry) (r : Read) (p : Piece) (ps : Lis
 pub first : (image : List ℕ) (x : Entry) (e : ℕ) (r : Read) {p : Piece} {ps : List Piece} → next image x e r ≡ pieces (p ∷ ps) → First image x r p ps
 first image (piece row) e (pieces qs) h = record { row = row; is-row = refl; is-piece = cc; is-read = cc }
 first image (piece row) e (refused n i) h = absurd (refused-no-pieces h)
-first image last e r h = let z : _≡_ {A = ℕ} 0 1 = cc in absurd (omega arith)
+first image end e r h = let z : _≡_ {A = ℕ} 0 1 = cc in absurd (omega arith)
 first image (bad n) e r h = absurd (refused-no-pieces h)
 
 -- the row of a piece p with index i

@@ -13,7 +13,7 @@ use Rattle.plan.specs.Plan.{Piece, putBytes, datas, Read, refused, pieces}
 use Rattle.plan.specs.Packed.{refuses, packedAs}
 use Rattle.series.specs.Refuted.Packers.{exchanged, sorted, padded}
 use Rattle.aplx_read.specs.PlanBytes.{table, planBytes}
-use Rattle.aplx_read.specs.ReadBack.{Entry, bad, limited, stored, copied, entryOf, entryAt, next, readEntries, readImage, readBack}
+use Rattle.aplx_read.specs.ReadBack.{Entry, bad, judgeCount, judgeRange, judgeCopy, judgeWords, entryAt, next, readEntries, readImage, readBack}
 use Rattle.read_back_series.specs.Claims.{Reader}
 
 -- ---- ours, with another reading of an entry's words
@@ -39,30 +39,30 @@ abbrev readingBy : Words → Reader
 readingBy words image room = packedAs planBytes (reading words image) room
 
 -- with our own reading of the words it is ours
-pub ours-by-words : (image : List ℕ) (room : ℕ) → readingBy entryOf image room ≡ readBack image room
+pub ours-by-words : (image : List ℕ) (room : ℕ) → readingBy judgeWords image room ≡ readBack image room
 unfolding entryBy readBy entryAt readEntries readImage readBack
 ours-by-words image room = ap (λ (r : Read). packedAs planBytes r room) (same 65 0)
   where
-    same : (k e : ℕ) → readBy entryOf (refused 21) image k e ≡ readEntries image k e
+    same : (k e : ℕ) → readBy judgeWords (refused 21) image k e ≡ readEntries image k e
     same zero e = refl
     same (suc k) e = ap (next image (entryAt image e) e) (same k (suc e))
 
 -- ---- the readers
 -- takes an RCOPY's offset from the header on, as if its entry were the first
 abbrev pub fromHeader : Reader
-fromHeader = readingBy (λ image e c x y z. if eqb c 2 then limited e (stored x z (copied image 0 x y z)) else entryOf image e c x y z)
+fromHeader = readingBy (λ image e c x y z. if eqb c 2 then judgeCount e (judgeRange x z (judgeCopy image 0 x y z)) else judgeWords image e c x y z)
 
 -- takes an unknown word as the end word
 abbrev pub unknownAsEnd : Reader
-unknownAsEnd = readingBy (λ image e c x y z. entryOf image e (if leb 1 c && leb c 4 then c else 0xffffffff) x y z)
+unknownAsEnd = readingBy (λ image e c x y z. judgeWords image e (if leb 1 c && leb c 4 then c else 0xffffffff) x y z)
 
 -- takes an ACOPY as an RCOPY
 abbrev pub acopyAsPut : Reader
-acopyAsPut = readingBy (λ image e c x y z. entryOf image e (if eqb c 1 then 2 else c) x y z)
+acopyAsPut = readingBy (λ image e c x y z. judgeWords image e (if eqb c 1 then 2 else c) x y z)
 
 -- rounds lengths up to a multiple of 32, as a load does
 abbrev pub roundsLengths : List ℕ → Read
-roundsLengths = reading (λ image e c x y z. entryOf image e c x (if eqb c 3 then roundUp y else y) (if eqb c 2 then roundUp z else z))
+roundsLengths = reading (λ image e c x y z. judgeWords image e c x (if eqb c 3 then roundUp y else y) (if eqb c 2 then roundUp z else z))
 
 -- takes an RCOPY of any length up to 65,536, and pads its data with zeros to a multiple of 32
 unfoldable pub anyLength : ℕ → ℕ → Entry → Entry
@@ -73,14 +73,14 @@ anyLength a n x =
     else x
 
 abbrev takesAnyLength : List ℕ → Read
-takesAnyLength = reading (λ image e c x y z. if eqb c 2 then limited e (anyLength x z (copied image e x y z)) else entryOf image e c x y z)
+takesAnyLength = reading (λ image e c x y z. if eqb c 2 then judgeCount e (anyLength x z (judgeCopy image e x y z)) else judgeWords image e c x y z)
 
 abbrev pub padsData : Reader
 padsData image room = packedAs planBytes (exchanged (padded 32) (takesAnyLength image)) room
 
 -- takes the first 64 pieces, and skips any further one
 abbrev pub skipsFurther : Reader
-skipsFurther image room = packedAs planBytes (readBy entryOf (λ e. pieces []) image 64 0) room
+skipsFurther image room = packedAs planBytes (readBy judgeWords (λ e. pieces []) image 64 0) room
 
 -- writes the data of the puts by ascending address; the rows have the offsets of the plan's order
 unfoldable pub sortedBytes : List Piece → List ℕ

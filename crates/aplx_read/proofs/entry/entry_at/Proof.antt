@@ -21,15 +21,15 @@ returns c = let x = c .before .before .args in simp (lt-ltb (length (x .image .n
 read-requires : tie.Need-read-requires
 read-requires c κs = search needs
 
-entry-of-requires : tie.Need-entry-of-requires
-entry-of-requires c κs = search needs
+judge-words-requires : tie.Need-judge-words-requires
+judge-words-requires c κs = search needs
 
 returns-2 : tie.Need-returns-2
 unfolding entryAt
 returns-2 c =
     let x = c .before .before .before .before .args in
-    simp (le-ltb (length (x .image .now)) (16 * x .index + 16) (omega arith), c .entry-of .ensures, c .before .read .ensures)
+    simp (le-ltb (length (x .image .now)) (16 * x .index + 16) (omega arith), c .judge-words .ensures, c .before .read .ensures)
 
 pub entry-at-spec : {M : Type 1} → statement M
 entry-at-spec =
-    tie.close (tie.spec mul-at add-if1 returns read-requires entry-of-requires returns-2)
+    tie.close (tie.spec mul-at add-if1 returns read-requires judge-words-requires returns-2)

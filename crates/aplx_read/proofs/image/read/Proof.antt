@@ -10,7 +10,7 @@ use Rattle.plan.specs.Code.{rowIs, pieceIs, outcomeOf}
 use Rattle.plan.specs.Code.Counting.{outcomeAfter, after-none, after-piece, after-all}
 use Rattle.plan.specs.Code.Laws.{Lengths}
 use Rattle.aplx_read.specs.ReadBack.{piece, entryAt, readEntries, readImage}
-use Rattle.aplx_read.specs.ReadBack.Laws.{read-piece, read-last, read-bad, read-no-more}
+use Rattle.aplx_read.specs.ReadBack.Laws.{read-piece, read-end, read-bad, read-no-more}
 use Rattle.aplx_read.specs.Code.{entryIs}
 use Rattle.aplx_read.specs.Code.Laws.{entry-lengths}
 use Rattle.aplx_read.proofs.image.read.Statement.{statement}
@@ -90,7 +90,7 @@ returns c =
     let x = s .before .before .args in
     let i = s .loop .i in
     let e = sym (c .before .before .entry-at .ensures) ∙ ap entryIs (c .enum-told .given .1) in
-    let all = ap (outcomeAfter i (s .loop .puts) (s .loop .fills)) (read-last (x .image .now) 65 i (omega arith) e) ∙ after-all i (s .loop .puts) (s .loop .fills) in
+    let all = ap (outcomeAfter i (s .loop .puts) (s .loop .fills)) (read-end (x .image .now) 65 i (omega arith) e) ∙ after-all i (s .loop .puts) (s .loop .fills) in
     sym all ∙ s .loop .inv .0
 
 enum-known-number : tie.Need-enum-known-number Inv-loop μ-loop

@@ -71,19 +71,19 @@ loop-holds c =
     let none = written.written-none (ps d) (start d .args .output .now) (begun d) (start d .pre .0 .fits) (header-written d) in
     (none, (refl, (omega arith, (refl, omega arith))))
 
-piece-at-requires : tie.Need-piece-at-requires Inv-loop μ-loop
-piece-at-requires c κs = search needs
+accepted-at-requires : tie.Need-accepted-at-requires Inv-loop μ-loop
+accepted-at-requires c κs = search needs
 
 -- the piece read is the image's
-module _ (c : tie.After-piece-at Inv-loop μ-loop) where
+module _ (c : tie.After-accepted-at Inv-loop μ-loop) where
   abbrev k : tie.At-loop Inv-loop μ-loop
   k = c .before .before
 
   abbrev head : tie.After-put Inv-loop μ-loop
   head = k .before .before .before
 
-  next-piece : Found 32 (start head .args .image .now) (ps head) (k .loop .i) (c .piece-at .result)
-  next-piece = found (start head .args .image .now) (head .before .before .before .shared-slice-known .given) (start head .pre .0 .accepted) (k .loop .i) (omega arith) _ (c .piece-at .ensures)
+  next-piece : Found 32 (start head .args .image .now) (ps head) (k .loop .i) (c .accepted-at .result)
+  next-piece = found (start head .args .image .now) (head .before .before .before .shared-slice-known .given) (start head .pre .0 .accepted) (k .loop .i) (omega arith) _ (c .accepted-at .ensures)
 
 cast-write-row : tie.Need-cast-write-row Inv-loop μ-loop
 cast-write-row c = omega arith
@@ -121,7 +121,7 @@ loop-again c =
     let i = k d .loop .i in
     let offset = k d .loop .inv .1 .0 in
     let w = c .before .before .before .write-row in
-    let p = pieceIs (start h .args .image .now) (d .piece-at .result) in
+    let p = pieceIs (start h .args .image .now) (d .accepted-at .result) in
     let row = rowBytes p (k d .loop .offset) in
     let fits : dataStart (ps h) + putBytes (ps h) ≤ length (begun h) = omega (arith, room h, length-begun h) in
     let more : Written (ps h) (front (ps h)) (begun h) (w .last .1 .1 .0) (i + 1) =
@@ -150,7 +150,7 @@ write-plan-spec =
     cast-put
     put-requires
     loop-holds
-    piece-at-requires
+    accepted-at-requires
     cast-write-row
     add-write-row
     mul-write-row

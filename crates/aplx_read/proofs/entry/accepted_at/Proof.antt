@@ -1,9 +1,9 @@
--- `aplx_read::entry::piece_at` meets its contract: the piece is that of the entry's row, or the run at 0.
+-- `aplx_read::entry::accepted_at` meets its contract: the piece is that of the entry's row, or the run at 0.
 use mathlib.Core.Path.{ap, sym, _∙_}
 use Rattle.aplx_read.specs.Code.{entryIs, rowOf}
 use borrow.Author.Needs.{needs}
-use Rattle.aplx_read.proofs.entry.piece_at.Statement.{statement}
-use Rattle.aplx_read.proofs.entry.piece_at.Tie as tie
+use Rattle.aplx_read.proofs.entry.accepted_at.Statement.{statement}
+use Rattle.aplx_read.proofs.entry.accepted_at.Tie as tie
 
 entry-at-requires : tie.Need-entry-at-requires
 entry-at-requires c κs = search needs
@@ -26,7 +26,7 @@ returns-2 c = ap rowOf (sym (ap entryIs (c .enum-told .given .1)) ∙ c .before 
 returns-3 : tie.Need-returns-3
 returns-3 c = ap rowOf (sym (ap entryIs (c .enum-told2 .given .1)) ∙ c .before .before .entry-at .ensures)
 
-pub piece-at-spec : {M : Type 1} → statement M
-piece-at-spec =
+pub accepted-at-spec : {M : Type 1} → statement M
+accepted-at-spec =
     tie.close
     (tie.spec entry-at-requires enum-known-piece enum-told enum-told-2 returns returns-2 returns-3)
