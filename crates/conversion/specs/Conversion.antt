@@ -7,22 +7,18 @@ use lib.Dec.{ltb}
 use lib.ListN.{length}
 use Rattle.words.specs.Choice.{if_then_else_}
 use Rattle.words.specs.Store.{store}
-use Rattle.plan.specs.Packed.{Packed, refuses, packs}
+use Rattle.plan.specs.Packed.{Packed}
 use Rattle.aplx_pack.specs.Image.{packAplx}
 use Rattle.srom_pack.specs.Image.{packSrom}
 use Rattle.text.specs.Refusal.{refusalLine, fitting}
 use Rattle.conversion.specs.declared.convert.Medium.{Medium}
 use Rattle.conversion.specs.declared.convert.Medium.the-variants.{Aplx, Srom}
+use Rattle.conversion.specs.Shown.{shown}
 
 -- what packing a plan for a medium gives, for an output of n bytes
 unfoldable pub packFor : Medium → List ℕ → ℕ → Packed
 packFor Aplx plan n = packAplx plan n
 packFor Srom plan n = packSrom plan n
-
--- the image, or "only the line `refused N at P` and a newline"
-abbrev pub shown : Packed → List ℕ
-shown (refuses x p) = refusalLine x p
-shown (packs image) = image
 
 -- "Plans up to 32,768 bytes (longer: 11, place 0)"; an image of more than n bytes is 10
 unfoldable pub converted : Medium → List ℕ → ℕ → List ℕ
@@ -32,10 +28,10 @@ converted medium plan n = if ltb 32768 (length plan) then refusalLine 11 0 else 
 abbrev pub written : Medium → List ℕ → ℕ → List ℕ
 written medium plan n = fitting (converted medium plan n) n
 
--- what is answered and left for the plan in a file: r bytes, and last of an output m. The plan is what was read, and no contract can say
--- which bytes these are; of a longer input one byte past the limit is read at most
+-- what is answered and left for the plan in a file: r bytes, and last of an output m of 65,536 bytes. The plan is what was read, and no
+-- contract can say which bytes these are; of a longer input one byte past the limit is read at most
 pub record FromFile (medium : Medium) (m : List ℕ) (r : ℕ) (last : List ℕ) : Type 0 where
   pub plan : List ℕ
   pub read : length plan ≤ 32769
-  pub length-is : r ≡ length (written medium plan (length m))
-  pub output-is : last ≡ store m 0 (written medium plan (length m))
+  pub length-is : r ≡ length (written medium plan 65536)
+  pub output-is : last ≡ store m 0 (written medium plan 65536)

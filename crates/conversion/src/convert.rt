@@ -35,10 +35,6 @@ pub fn convert(medium: Medium, plan: &[u8], output: &mut [u8]) -> usize
     if plan.len() > 32768 {
         return text::refusal::put(output, PLAN_MALFORMED as u64, 0);
     }
-    match pack(medium, plan, output) {
-        Answer::Packed { size } => size,
-        Answer::Refused(refusal) => {
-            text::refusal::put(output, refusal.number as u64, refusal.place as u64)
-        }
-    }
+    let answer = pack(medium, plan, output);
+    crate::shown::show(answer, output)
 }

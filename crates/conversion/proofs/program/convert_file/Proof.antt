@@ -30,7 +30,8 @@ returns c =
     let inside : w .result ≤ length (w .last .1 .1 .0) = omega (arith, w .ensures .1 .1, w .kept .1 .1 .0) in
     let s = take (f .result) (f .last .1 .0) in
     let read : length s ≤ 32769 = omega (arith, f .ensures .0, f .ensures .1, f .kept .1 .0) in
-    (record { plan = s; read = read; length-is = w .ensures .0; output-is = w .ensures .1 .0 }, (inside, sym (length-take-le _ _ inside)))
+    let n = c .before .convert-arg .given .0 .1 in
+    (record { plan = s; read = read; length-is = rw n at (w .ensures .0); output-is = rw n at (w .ensures .1 .0) }, (inside, sym (length-take-le _ _ inside)))
 
 pub convert-file-spec : {M : Type 1} → statement M
 convert-file-spec =
