@@ -1,4 +1,5 @@
--- A plan as an image for a medium, as bytes to be written to a file.
+-- A plan as an image for a medium, and an image as its plan, as bytes to be written to a file.
 pub mod Shown
 pub mod Conversion
+pub mod Restored
 pub mod Examples
