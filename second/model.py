@@ -405,7 +405,11 @@ def converted(pack, plan):
     if len(plan) > 32768:
         return b'refused 11 at 0\n'
     output = bytearray(65536)
-    answer = pack(plan, output)
+    return shown(pack(plan, output), output)
+
+
+def shown(answer, output):
+    """The bytes that were written, or the line of a refusal."""
     if answer[0] == 'refused':
         return b'refused %d at %d\n' % answer[1:3]
     return bytes(output[:answer[1]])
@@ -417,6 +421,14 @@ def plan_to_aplx(plan):
 
 def plan_to_srom(plan):
     return converted(pack_srom, plan)
+
+
+def aplx_to_plan(image):
+    """The plan of an image: images up to 65,536 bytes, plans up to 32,768. None for a longer image: nothing is written."""
+    if len(image) > 65536:
+        return None
+    output = bytearray(32768)
+    return shown(aplx_read(image, output), output)
 
 
 # ---- Flood fill

@@ -1,5 +1,5 @@
 #!/usr/bin/env python3
-"""The inputs of the programs plan_to_aplx, plan_to_srom, conversion_cases and flood_fill_cases, and what each must write.
+"""The inputs of the programs plan_to_aplx, plan_to_srom, aplx_to_plan, conversion_cases and flood_fill_cases, and what each must write.
 
 programs.py write: stores them as crates/NAME/stdin, stdout and data/FILE.
 programs.py: fails where a stored file is another, or another file is stored.
@@ -8,7 +8,7 @@ import os
 import sys
 
 import model
-from model import plan_to_aplx, plan_to_srom
+from model import aplx_to_plan, plan_to_aplx, plan_to_srom
 
 here = os.path.dirname(os.path.abspath(__file__))
 crates = os.path.join(here, '..', 'crates')
@@ -41,8 +41,8 @@ put_and_fill = [(1, 0x60000000, len(long), 0), (2, 0x60010000, 32800, 0x01020304
 
 coefficients = hex_text('coefficients.plan.hex')
 
-# the files of conversion_cases, in the order in which it converts them
-files = {
+# the plans of conversion_cases, in the order in which it converts them
+plans = {
     'coefficients': coefficients,
     'empty': b'',
     # a put of 20 bytes: a serial ROM has it, APLX does not
@@ -62,12 +62,45 @@ files = {
 }
 
 
-def case(name, medium, data):
+END = 0xffffffff, 0, 0, 0
+
+
+def shared(runs):
+    """An image of 62 puts of the same 512 bytes, and some runs. Its plan has 1,008 bytes, 16 for each run, and 31,744 of data."""
+    puts = [(2, 0x60000000 + 512 * k, 16 * (62 + runs + 1 - k), 512) for k in range(62)]
+    return b''.join(words(*e) for e in [*puts, *[(4, 0x60000000, 0, 0)] * runs, END]) + bytes(k * 3 % 256 for k in range(512))
+
+
+# an image, and bytes behind it
+more = plan_to_aplx(coefficients) + bytes(k * 11 % 256 for k in range(65536))
+
+# the images, in the order in which it reads them back
+images = {
+    # read back, it is the plan that was packed
+    'image_coefficients': plan_to_aplx(coefficients),
+    'empty': b'',
+    # a run, and an ACOPY
+    'image_refused': words(4, 0x60000000, 0, 0, 1, 0x400000, 0x500000, 32, *END),
+    # the image of the plan `largest`: its plan has the table three times
+    'image_largest': plan_to_aplx(plans['largest']),
+    # a plan of 32,768 bytes, and one of 32,784
+    'image_longest_plan': shared(1),
+    'image_longer_plan': shared(2),
+    # 65,536 bytes, of which those behind the image do not matter, and a byte more
+    'image_and_more': more[:65536],
+    'image_too_long': more[:65537],
+}
+
+
+def case(name, kind, data):
     """A title with the number of bytes, and the bytes as they stand."""
-    return b'%s, %s: %d bytes\n%s\n' % (name.encode(), medium, len(data), data)
+    if data is None:
+        return b'%s, %s: too long, nothing is written\n' % (name.encode(), kind)
+    return b'%s, %s: %d bytes\n%s\n' % (name.encode(), kind, len(data), data)
 
 
-cases = b''.join(case(name, b'APLX', plan_to_aplx(s)) + case(name, b'SROM', plan_to_srom(s)) for name, s in files.items())
+cases = b''.join(case(name, b'APLX', plan_to_aplx(s)) + case(name, b'SROM', plan_to_srom(s)) for name, s in plans.items())
+cases += b''.join(case(name, b'plan', aplx_to_plan(s)) for name, s in images.items())
 
 
 # ---- the messages of flood_fill_cases: the kind, how many bytes of the image are lent, and three numbers
@@ -137,8 +170,11 @@ stored = {
     'plan_to_aplx/stdout': plan_to_aplx(coefficients),
     'plan_to_srom/stdin': coefficients,
     'plan_to_srom/stdout': plan_to_srom(coefficients),
+    'aplx_to_plan/stdin': plan_to_aplx(coefficients),
+    'aplx_to_plan/stdout': aplx_to_plan(plan_to_aplx(coefficients)),
     'conversion_cases/stdout': cases,
 }
+files = {**plans, **images}
 stored.update(('conversion_cases/data/' + name, s) for name, s in files.items())
 
 different = 0

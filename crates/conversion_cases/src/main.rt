@@ -1,12 +1,23 @@
-// The plans in data/, each converted for both media. second/programs.py makes them and says what each is.
+// The plans in data/, each converted for both media, and the images, each read back. second/programs.py makes them and says what each is.
 use conversion::convert::Medium;
+use conversion::read_back::Written;
 use libc::STDOUT_FILENO;
 
 fn text(t: &[u8]) {
     io::write_all(STDOUT_FILENO, t);
 }
 
-// What is written for the plan in a file, as it stands, under a title with the number of bytes.
+// The bytes as they stand, under a title with their number.
+fn show(name: &[u8], kind: &[u8], bytes: &[u8]) {
+    text(name);
+    text(kind);
+    io::print_decimal(STDOUT_FILENO, bytes.len() as u64);
+    text(b" bytes\n");
+    text(bytes);
+    text(b"\n");
+}
+
+// What is written for the plan in a file.
 fn convert(name: &[u8], medium: Medium, medium_name: &[u8]) {
     let file = os::open_read(name);
     if file < 0 {
@@ -16,27 +27,49 @@ fn convert(name: &[u8], medium: Medium, medium_name: &[u8]) {
     let mut output = [0u8; 65536];
     let size = conversion::program::convert_file(medium, file, &mut output);
     libc::close(file);
-    text(name);
-    text(medium_name);
-    io::print_decimal(STDOUT_FILENO, size as u64);
-    text(b" bytes\n");
-    text(&output[..size]);
-    text(b"\n");
+    show(name, medium_name, &output[..size]);
 }
 
-fn case(name: &[u8]) {
+fn plan(name: &[u8]) {
     convert(name, Medium::Aplx, b", APLX: ");
     convert(name, Medium::Srom, b", SROM: ");
 }
 
+// What is written for the image in a file.
+fn image(name: &[u8]) {
+    let file = os::open_read(name);
+    if file < 0 {
+        os::fail(name);
+        return;
+    }
+    let mut output = [0u8; 32768];
+    let written = conversion::program::read_back_file(file, &mut output);
+    libc::close(file);
+    match written {
+        Written::Bytes { size } => show(name, b", plan: ", &output[..size]),
+        Written::TooLong => {
+            text(name);
+            text(b", plan: too long, nothing is written\n");
+        }
+    }
+}
+
 fn main() {
-    case(b"coefficients");
-    case(b"empty");
-    case(b"refused");
-    case(b"refused_by_both");
-    case(b"largest");
-    case(b"larger");
-    case(b"too_long");
-    case(b"srom_largest");
-    case(b"srom_larger");
+    plan(b"coefficients");
+    plan(b"empty");
+    plan(b"refused");
+    plan(b"refused_by_both");
+    plan(b"largest");
+    plan(b"larger");
+    plan(b"too_long");
+    plan(b"srom_largest");
+    plan(b"srom_larger");
+    image(b"image_coefficients");
+    image(b"empty");
+    image(b"image_refused");
+    image(b"image_largest");
+    image(b"image_longest_plan");
+    image(b"image_longer_plan");
+    image(b"image_and_more");
+    image(b"image_too_long");
 }
