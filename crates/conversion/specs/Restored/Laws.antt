@@ -5,9 +5,8 @@ use Prim.Native.Nat.{ℕ, _≤_, _<_}
 use lib.ListN.{length}
 use borrow.Author.Tests.{lt-ltb, le-ltb}
 use Rattle.plan.specs.Packed.{packs}
-use Rattle.plan.specs.Packed.Laws.{accepted-facts}
-use Rattle.aplx_read.specs.PlanBytes.{planBytes}
-use Rattle.aplx_read.specs.ReadBack.{readImage, readBack}
+use Rattle.aplx_read.specs.ReadBack.{readBack}
+use Rattle.aplx_read.specs.ReadBack.Laws.{plan-facts}
 use Rattle.conversion.specs.declared.read_back.Written.{Written}
 use Rattle.conversion.specs.declared.read_back.Written.the-variants.{Bytes, TooLong}
 use Rattle.conversion.specs.Shown.{shown}
@@ -16,8 +15,7 @@ use Rattle.conversion.specs.Restored.{restored, answerOf, outputOf}
 
 -- a plan that was read for n bytes has n at most
 pub plan-fits : (image : List ℕ) (n : ℕ) (plan : List ℕ) → readBack image n ≡ packs plan → length plan ≤ n
-unfolding readBack
-plan-fits image n plan e = accepted-facts planBytes (readImage image) n e .fits
+plan-fits image n plan e = plan-facts image n e .fits
 
 -- what the function answers and leaves of an output m
 abbrev pub Answered : List ℕ → List ℕ → Written → List ℕ → Type 0
