@@ -2,7 +2,7 @@
 use mathlib.Core.Path.{_≡_, refl}
 use mathlib.Core.List.{List, [], _∷_, _++_}
 use Prim.Native.Nat.{ℕ, zero, suc}
-use lib.ListN.{length, take, drop, replicate}
+use lib.ListN.{take, drop, replicate}
 use Rattle.words.specs.Four.{fourBytes}
 use Rattle.plan.specs.Plan.{Piece, put, fill, run, refused, pieces}
 use Rattle.plan.specs.Packed.{packs, refuses}

@@ -1,10 +1,10 @@
 -- Laws of the APLX image: its length, what stands at a piece's entry and where its data lies, and which plans are packed.
-use mathlib.Core.Path.{_≡_, refl, ap, sym, _∙_}
+use mathlib.Core.Path.{_≡_, refl, sym}
 use mathlib.Core.List.{List, [], _∷_, _++_, append-assoc}
 use Prim.Native.Nat.{ℕ, zero, suc, _+_, _*_, _≤_}
 use native.Mathlib.Nat.{add-zero, add-assoc}
 use native.Mathlib.Omega.{arith}
-use lib.ListN.{length, take, drop, length-append, take-append-drop}
+use lib.ListN.{length, take, drop, length-append}
 use lib.Seq.{take-at, drop-at, drop-drop, drop-append-le}
 use Rattle.words.specs.Four.Laws.{length-fourBytes}
 use Rattle.plan.specs.Plan.{Piece, put, fill, run, dataOf, putBytes, datas, pieces, readPlan}

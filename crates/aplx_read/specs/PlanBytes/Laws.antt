@@ -8,12 +8,11 @@ use lib.ListN.{length, take, drop, length-append}
 use lib.Seq.{drop-at, drop-drop}
 use Rattle.words.specs.Choice.{All}
 use Rattle.words.specs.Choice.Laws.{all-append}
-use Rattle.words.specs.Bytes.{littleEndian, Bytes}
-use Rattle.words.specs.Bytes.Laws.{bytes-of}
+use Rattle.words.specs.Bytes.{Bytes}
 use Rattle.words.specs.Four.{fourBytes}
-use Rattle.words.specs.Four.Laws.{length-fourBytes}
+use Rattle.words.specs.Four.Laws.{length-fourBytes, bytes-of-four}
 use Rattle.plan.specs.Plan.{Piece, put, fill, run, dataOf, putBytes, datas}
-use Rattle.plan.specs.Plan.Datas.{length-datas}
+use Rattle.plan.specs.Plan.Datas.{length-datas, datas-bytes}
 use Rattle.aplx_read.specs.PlanBytes.{rowBytes, table, planBytes}
 
 pub length-rowBytes : (p : Piece) (offset : ℕ) → length (rowBytes p offset) ≡ 16
@@ -44,30 +43,19 @@ drop-table (p ∷ ps) (suc i) k h =
     rw (z, ← drop-drop (16 * i) 16 (table k (p ∷ ps)), s, drop-table ps i (k + length (dataOf p)) (omega arith), length-append, add-assoc)
 
 -- ---- bytes
-four-bytes : (a b c d : ℕ) → Bytes (fourBytes a b c d)
-unfolding fourBytes
-four-bytes a b c d =
-    all-append _ (littleEndian 4 a) _ (bytes-of 4 a)
-    (all-append _ (littleEndian 4 b) _ (bytes-of 4 b) (all-append _ (littleEndian 4 c) _ (bytes-of 4 c) (bytes-of 4 d)))
-
 row-bytes : (p : Piece) (offset : ℕ) → Bytes (rowBytes p offset)
 unfolding rowBytes
-row-bytes (put a d) offset = four-bytes 1 a (length d) offset
-row-bytes (fill a n w) offset = four-bytes 2 a n w
-row-bytes (run a) offset = four-bytes 3 a 0 0
+row-bytes (put a d) offset = bytes-of-four 1 a (length d) offset
+row-bytes (fill a n w) offset = bytes-of-four 2 a n w
+row-bytes (run a) offset = bytes-of-four 3 a 0 0
 
 table-bytes : (k : ℕ) (ps : List Piece) → Bytes (table k ps)
 unfolding table
 table-bytes k [] = tt
 table-bytes k (p ∷ ps) = all-append _ (rowBytes p k) _ (row-bytes p k) (table-bytes (k + length (dataOf p)) ps)
 
-datas-bytes : (ps : List Piece) → All (λ p. Bytes (dataOf p)) ps → Bytes (datas ps)
-unfolding datas
-datas-bytes [] b = tt
-datas-bytes (p ∷ ps) b = all-append _ (dataOf p) _ (b .0) (datas-bytes ps (b .1))
-
 pub plan-bytes : (ps : List Piece) → All (λ p. Bytes (dataOf p)) ps → Bytes (planBytes ps)
 unfolding planBytes
 plan-bytes ps b =
-    all-append _ (fourBytes (length ps) 16 (16 + 16 * length ps) (putBytes ps)) _ (four-bytes (length ps) 16 (16 + 16 * length ps) (putBytes ps))
+    all-append _ (fourBytes (length ps) 16 (16 + 16 * length ps) (putBytes ps)) _ (bytes-of-four (length ps) 16 (16 + 16 * length ps) (putBytes ps))
     (all-append _ (table 0 ps) _ (table-bytes 0 ps) (datas-bytes ps b))

@@ -13,7 +13,7 @@ use Rattle.words.specs.Bytes.{littleEndianAt, Bytes}
 use Rattle.words.specs.Bytes.Laws.{little-at-below}
 use Rattle.plan.specs.Plan.{Row, putRow, fillRow, runRow, pieceIn}
 use Rattle.plan.specs.Packable.{Sized}
-use Rattle.plan.specs.Plan.Laws.{Passed, data-length}
+use Rattle.plan.specs.Plan.Laws.{sized, Passed, data-length}
 use Rattle.aplx_image.specs.Carries.{EntryAt, Says}
 use Rattle.aplx_read.specs.ReadBack.{Entry, piece, bad, judgeCount, judgeExec, judgeRange, source, judgeCopy, judgeWords, entryAt}
 use Rattle.aplx_read.specs.ReadBack.Laws.{bad-no-piece, end-no-piece}
@@ -29,16 +29,8 @@ range-piece a n low h =
     let t = from-else (eqb n 0) bad-no-piece h in
     let u = from-else (not (eqb (n % 32) 0)) bad-no-piece (t .1) in
     let v = from-else (ltb 65536 n) bad-no-piece (u .1) in
-    let w = from-else (not (eqb (a % 4) 0)) bad-no-piece (v .1) in (
-      record {
-        some = omega (arith, eqb-false n 0 (t .0));
-        most = ltb-false _ _ (v .0);
-        whole = eqb-true _ _ (not-false _ (u .0));
-        aligned = eqb-true _ _ (not-false _ (w .0));
-        low = low;
-      },
-      w .1,
-    )
+    let w = from-else (not (eqb (a % 4) 0)) bad-no-piece (v .1) in
+    (sized 32 a n low (t .0) (v .0) (w .0) (u .0), w .1)
 
 -- the words of entry e, which has these
 module _ (image : List ℕ) (e x y z : ℕ) (low : x < 4294967296) {row : Row} where

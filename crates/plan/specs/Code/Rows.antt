@@ -1,6 +1,6 @@
 -- Laws of what is written as a front part with a row or an entry of 16 bytes for each piece, and then the data of the puts in order: an
 -- APLX image, and a plan. Both have their data behind 16 bytes for each piece and 16 more, and both are written piece by piece.
-use mathlib.Core.Path.{_≡_, ap, sym, _∙_}
+use mathlib.Core.Path.{_≡_, ap, _∙_}
 use mathlib.Core.List.{List, _++_, append-nil}
 use Prim.Native.Nat.{ℕ, _+_, _*_, _≤_}
 use native.Mathlib.Omega.{arith}

@@ -13,7 +13,7 @@ use Rattle.words.specs.Choice.{All}
 use Rattle.words.specs.Choice.Laws.{from-else, from-either}
 use Rattle.words.specs.Bytes.{littleEndianAt, Bytes}
 use Rattle.words.specs.Bytes.Laws.{little-at-below}
-use Rattle.plan.specs.Plan.{Piece, put, fill, run, countOf, tableOf, dataAt, dataLength, Row, putRow, fillRow, runRow, pieceIn, good, judgeRun, judgeFill, judgeData, judgePut, judgeKind, judgeAt, pieceAt, pieces, readPieces, readPlan}
+use Rattle.plan.specs.Plan.{Piece, countOf, tableOf, dataAt, dataLength, Row, putRow, fillRow, runRow, pieceIn, good, judgeRun, judgeFill, judgeData, judgePut, judgeKind, judgeAt, pieceAt, pieces, readPieces, readPlan}
 use Rattle.plan.specs.Packable.{Sized, Packable}
 use Rattle.plan.specs.Plan.Steps.{refused-no-pieces, bad-no-good, pieces-count, pieces-each, RowAt, pieces-at}
 
@@ -54,19 +54,19 @@ Passed unit end (putRow a o n) = Sized unit a n × (o + n ≤ end)
 Passed unit end (fillRow a n w) = Sized unit a n × (w < 4294967296)
 Passed unit end (runRow a) = (a < 4294967296) × (a % 4 ≡ 2 → ⊥)
 
--- what the tests show of the words a, n and w that follow a piece's kind
-module _ (unit : ℕ) (s : List ℕ) (a n w : ℕ) (low : a < 4294967296) where
-  sized :
-      eqb n 0 ≡ false → ltb 65536 n ≡ false → not (eqb (a % 4) 0) ≡ false → not (eqb (n % unit) 0) ≡ false
-      → Sized unit a n
-  sized e f g h = record {
-    some = omega (arith, eqb-false n 0 e);
-    most = ltb-false _ _ f;
-    whole = eqb-true _ _ (not-false _ h);
-    aligned = eqb-true _ _ (not-false _ g);
-    low = low;
-  }
+-- what the tests show of an address and a length
+pub sized : (unit a n : ℕ) → a < 4294967296 → eqb n 0 ≡ false → ltb 65536 n ≡ false → not (eqb (a % 4) 0) ≡ false → not (eqb (n % unit) 0) ≡ false
+    → Sized unit a n
+sized unit a n low e f g h = record {
+  some = omega (arith, eqb-false n 0 e);
+  most = ltb-false _ _ f;
+  whole = eqb-true _ _ (not-false _ h);
+  aligned = eqb-true _ _ (not-false _ g);
+  low = low;
+}
 
+-- what they show of the words a, n and w that follow a piece's kind
+module _ (unit : ℕ) (s : List ℕ) (a n w : ℕ) (low : a < 4294967296) where
   run-passed : {row : Row} → judgeRun a n w ≡ good row → Passed unit (dataAt s + dataLength s) row
   unfolding judgeRun
   run-passed {row} e =
@@ -83,7 +83,7 @@ module _ (unit : ℕ) (s : List ℕ) (a n w : ℕ) (low : a < 4294967296) where
       let x = from-else (not (eqb (a % 4) 0)) bad-no-good (u .1) in
       let y = from-else (not (eqb (n % unit) 0)) bad-no-good (x .1) in
       let z : fillRow a n w ≡ row = cc (y .1) in
-      rw (sym z) (sized (t .0) (u .0) (x .0) (y .0), h)
+      rw (sym z) (sized unit a n low (t .0) (u .0) (x .0) (y .0), h)
 
   put-passed : {row : Row} → judgePut unit s a n w ≡ good row → Passed unit (dataAt s + dataLength s) row
   unfolding judgePut judgeData
@@ -95,7 +95,7 @@ module _ (unit : ℕ) (s : List ℕ) (a n w : ℕ) (low : a < 4294967296) where
       let y = from-else (not (eqb (n % unit) 0)) bad-no-good (i .1) in
       let l : w + n ≤ dataLength s = ltb-false _ _ (i .0) in
       let z : putRow a (dataAt s + w) n ≡ row = cc (y .1) in
-      rw (sym z) (sized (t .0) (u .0) (x .0) (y .0), omega arith)
+      rw (sym z) (sized unit a n low (t .0) (u .0) (x .0) (y .0), omega arith)
 
 pub row-passed : (unit : ℕ) (s : List ℕ) → Bytes s → (i : ℕ) {row : Row} → pieceAt unit s i ≡ good row → Passed unit (dataAt s + dataLength s) row
 unfolding pieceAt judgeAt judgeKind

@@ -6,8 +6,9 @@ use native.Mathlib.Nat.{add-zero}
 use native.Mathlib.Omega.{arith}
 use lib.ListN.{length, take, drop, replicate, length-append, length-drop, length-replicate}
 use lib.Seq.{take-all}
-use Rattle.words.specs.Bytes.{littleEndian, firstBytes, littleEndianAt}
-use Rattle.words.specs.Bytes.Laws.{length-littleEndian, little-at-past, little-at-drop, little-at-behind, little-at-front}
+use Rattle.words.specs.Choice.Laws.{all-append}
+use Rattle.words.specs.Bytes.{littleEndian, firstBytes, littleEndianAt, Bytes}
+use Rattle.words.specs.Bytes.Laws.{length-littleEndian, bytes-of, little-at-past, little-at-drop, little-at-behind, little-at-front}
 use Rattle.words.specs.Bytes.Padded.{little-at-padded}
 use Rattle.words.specs.Store.{store, storeIfFits}
 use Rattle.words.specs.Store.Laws.{store-fits, store-behind}
@@ -16,6 +17,12 @@ use Rattle.words.specs.Four.{fourAt, fourBytes}
 pub length-fourBytes : (a b c d : ℕ) → length (fourBytes a b c d) ≡ 16
 unfolding fourBytes
 length-fourBytes a b c d = simp (length-append, length-littleEndian)
+
+pub bytes-of-four : (a b c d : ℕ) → Bytes (fourBytes a b c d)
+unfolding fourBytes
+bytes-of-four a b c d =
+    all-append _ (littleEndian 4 a) _ (bytes-of 4 a)
+    (all-append _ (littleEndian 4 b) _ (bytes-of 4 b) (all-append _ (littleEndian 4 c) _ (bytes-of 4 c) (bytes-of 4 d)))
 
 -- where they fit
 pub four-fits : (m : List ℕ) (p a b c d : ℕ) → p + 16 ≤ length m → storeIfFits m p (fourBytes a b c d) ≡ store m p (fourBytes a b c d)
