@@ -42,7 +42,7 @@ pub fn run(medium: Medium) {
     write(&output[..size]);
 }
 
-// And an image to its plan. Of one that is too long standard error tells.
+// From standard input to standard output, an image to its plan. For an image that is too long one line is written to standard error.
 pub fn run_read_back() {
     let mut output = [0u8; 32768];
     match read_back_file(STDIN_FILENO, &mut output) {

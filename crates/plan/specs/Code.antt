@@ -34,7 +34,7 @@ fillLength (Put a o n) = 0
 fillLength (Fill a n w) = n
 fillLength (Run a) = 0
 
--- the row of the piece table
+-- its row
 abbrev pub rowIs : code-piece.Piece → Row
 rowIs (Put a o n) = putRow a o n
 rowIs (Fill a n w) = fillRow a n w
@@ -49,7 +49,7 @@ abbrev pub rowOf : Judged → Row
 rowOf (good row) = row
 rowOf (bad n) = runRow 0
 
--- the piece of the plan s
+-- the piece, with its data in s
 abbrev pub pieceIs : List ℕ → code-piece.Piece → Piece
 pieceIs s p = pieceIn s (rowIs p)
 

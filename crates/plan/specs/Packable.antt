@@ -1,4 +1,5 @@
--- Which pieces can be packed for a medium whose lengths are multiples of a unit (paper 01, "Plans"): those that pass the tests of one piece.
+-- Which pieces can be packed for a medium whose lengths are multiples of a unit (paper 01, "Plans"): those whose address,
+-- length and word pass the tests of one piece. Where a put's data stands is the plan's matter.
 use mathlib.Core.Path.{_≡_}
 use Prim.Native.Nat.{ℕ, _%_, _≤_, _<_}
 use lib.ListN.{length}

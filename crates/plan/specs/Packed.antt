@@ -1,4 +1,4 @@
--- What packing a plan gives (paper 01, "Plans").
+-- What packing a plan gives (paper 01, "Plans"), and in the same terms what reading an image back gives (paper 02, C-11).
 pub mod Laws
 use mathlib.Core.Path.{_≡_}
 use mathlib.Core.List.{List, []}
@@ -13,19 +13,19 @@ pub data Packed : Type 0 where
   refuses : ℕ → ℕ → Packed  -- number, place
   packs : List ℕ → Packed  -- what is written
 
--- pieces that were read, written as this image into an output of n bytes: "Last, 10", with "the piece count" as its place
+-- pieces that were read, written as these bytes, an image or a plan, into an output of n bytes: "Last, 10", with "the piece count" as its place
 abbrev pub packedAs : (List Piece → List ℕ) → Read → ℕ → Packed
 packedAs image (refused x i) n = refuses x i
 packedAs image (pieces ps) n =
     if ltb n (length (image ps)) then refuses 10 (length ps)
     else packs (image ps)
 
--- "Output past the image is untouched."; a refused plan leaves all of it
+-- "Output past the image is untouched."; what is refused leaves all of it
 abbrev pub outputAfter : Packed → List ℕ → List ℕ
 outputAfter (refuses x i) out = out
 outputAfter (packs image) out = store out 0 image
 
--- what a packer answers: a refusal, or the length of the image
+-- what is answered: a refusal, or the length of what was written
 pub data Outcome : Type 0 where
   refusal : ℕ → ℕ → Outcome  -- number, place
   sized : ℕ → Outcome

@@ -59,8 +59,8 @@ dataAt s = littleEndianAt 4 s 8
 abbrev pub dataLength : List ℕ → ℕ
 dataLength s = littleEndianAt 4 s 12
 
--- a row of the piece table that passed the tests of one piece; the offset is that of the slice in which the data stands, the plan's or an
--- image's
+-- what a row of the piece table, or an entry of an image, gives once it passed the tests of one piece; the offset counts from the first
+-- byte of the slice that it was read from
 pub data Row : Type 0 where
   putRow : ℕ → ℕ → ℕ → Row  -- address, offset of the data, length
   fillRow : ℕ → ℕ → ℕ → Row  -- address, length, word
@@ -125,9 +125,9 @@ judgeAt unit s p =
 unfoldable pub pieceAt : ℕ → List ℕ → ℕ → Judged
 pieceAt unit s i = judgeAt unit s (tableOf s + 16 * i)
 
--- a plan that was read
+-- the pieces of a plan, or of an image that is read back
 pub data Read : Type 0 where
-  refused : ℕ → ℕ → Read  -- number, piece index
+  refused : ℕ → ℕ → Read  -- number, index of the piece or of the entry
   pieces : List Piece → Read
 
 abbrev pub before : Piece → Read → Read

@@ -7,12 +7,17 @@ use Rattle.words.specs.Bytes.{Bytes}
 use Rattle.plan.specs.Packed.{packs}
 use Rattle.aplx_pack.specs.Image.{packAplx}
 use Rattle.series.specs.Software as software
-use Rattle.aplx_read.specs.ReadBack.{readBack}
+use Rattle.aplx_read.specs.ReadBack.{readImage, readBack}
 use Rattle.read_back_series.specs.Claims.{Claims}
+use Rattle.read_back_series.specs.Exact.{Exact}
 use Rattle.read_back_series.specs.Proof as proof
 
 pub ours : Claims software.ours readBack
 ours = record { restores = proof.restores; returns = proof.returns }
+
+-- exactly the images that carry pieces which can be packed are read
+pub read-exactly : Exact readImage
+read-exactly = proof.read-exactly
 
 -- the packed image of a plan that was read back is read back as the same plan
 pub plan-again :

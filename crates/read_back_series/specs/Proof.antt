@@ -24,6 +24,7 @@ use Rattle.aplx_read.specs.ReadBack.{readImage, readBack}
 use Rattle.aplx_read.specs.ReadBack.Laws.{plan-facts, read-plan}
 use Rattle.aplx_read.specs.ReadBack.Carried.{image-carries, carried-image-read}
 use Rattle.read_back_series.specs.Claims.{Restores, Returns}
+use Rattle.read_back_series.specs.Exact.{Exact}
 
 -- the packed image of pieces is read as these
 packed-read : (ps : List Piece) → All (Packable 32) ps → length ps ≤ 64 → readImage (aplxImage ps) ≡ pieces ps
@@ -87,3 +88,10 @@ read-again image room plan b h packed n e m l =
     let z : packed ≡ aplxImage (p .read) = f .is-image ∙ ap aplxImage q in
     let fits : length (planBytes (p .read)) ≤ m = subst (λ (s : List ℕ). length s ≤ m) (p .is-plan) l in
     ap (λ (s : List ℕ). readBack s m) z ∙ read-plan (aplxImage (p .read)) m (packed-read (p .read) (p .good) (p .few)) fits ∙ ap packs (sym (p .is-plan))
+
+-- ---- which images are read
+pub read-exactly : Exact readImage
+read-exactly image b ps = record {
+  if-read = λ h. let r = image-carries image b h in record { carried = r .carried; packable = r .good; few = omega (arith, r .few) };
+  read-if = λ r. carried-image-read image ps (r .carried) (r .packable) (r .few);
+}

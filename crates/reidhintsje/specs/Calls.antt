@@ -87,18 +87,18 @@ abbrev pub readCall : List ℕ → ℕ → List ℕ
 readCall plan target = readNumbers (read.outcomeOf (readPlan (unitAt target) plan))
 
 -- the length that is written for pieces; what is refused has none
-abbrev pub imageLength : (List Piece → List ℕ) → Read → ℕ
-imageLength image (refused n i) = 0
-imageLength image (pieces ps) = length (image ps)
+abbrev pub writtenLength : (List Piece → List ℕ) → Read → ℕ
+writtenLength bytes (refused n i) = 0
+writtenLength bytes (pieces ps) = length (bytes ps)
 
 -- the numbers of the outcome, and the output afterwards
 pub record Packing : Type 0 where
   pub numbers : List ℕ
   pub output : List ℕ
 
--- the pieces as they were read, written as this image into this output
+-- the pieces as they were read, written as these bytes into this output
 abbrev pub packing : (List Piece → List ℕ) → Read → Packed → List ℕ → Packing
-packing image r p output = record { numbers = packNumbers (imageLength image r) (packed.outcomeOf p); output = outputAfter p output }
+packing bytes r p output = record { numbers = packNumbers (writtenLength bytes r) (packed.outcomeOf p); output = outputAfter p output }
 
 abbrev pub sromPackCall : List ℕ → List ℕ → Packing
 sromPackCall plan output = packing sromImage (readPlan 4 plan) (packSrom plan (length output)) output

@@ -9,7 +9,7 @@ ghost use Rattle.aplx_read.specs.PlanBytes.{planBytes};
 ghost use Rattle.aplx_read.specs.ReadBack.{readImage};
 ghost use Rattle.outcome_numbers.specs.Numbers.{first};
 ghost use Rattle.outcome_numbers.specs.Numbers.Laws.{tooSmall};
-ghost use Rattle.reidhintsje.specs.Calls.{unitAt, readCall, imageLength, sromPackCall, aplxPackCall, aplxReadCall};
+ghost use Rattle.reidhintsje.specs.Calls.{unitAt, readCall, writtenLength, sromPackCall, aplxPackCall, aplxReadCall};
 use outcome::answer::OUTPUT_TOO_SMALL;
 use outcome_numbers::numbers::packed_parts;
 use outcome_numbers::numbers::put;
@@ -57,7 +57,7 @@ fn too_small(answer: Answer) -> bool
 
 // The length of a plan's serial ROM image, or 0 where the plan is refused.
 fn srom_length(plan: &[u8]) -> u64
-    ensures { λ r. ⌜ r ≡ imageLength sromImage (readPlan 4 (now (plan .entry))) ⌝ }
+    ensures { λ r. ⌜ r ≡ writtenLength sromImage (readPlan 4 (now (plan .entry))) ⌝ }
 {
     match plan::read::read(plan, Target::Srom) {
         plan::read::Answer::Refused(_) => 0,
@@ -69,7 +69,7 @@ fn srom_length(plan: &[u8]) -> u64
 
 // The length of a plan's APLX image, or 0 where the plan is refused.
 fn aplx_length(plan: &[u8]) -> u64
-    ensures { λ r. ⌜ r ≡ imageLength aplxImage (readPlan 32 (now (plan .entry))) ⌝ }
+    ensures { λ r. ⌜ r ≡ writtenLength aplxImage (readPlan 32 (now (plan .entry))) ⌝ }
 {
     match plan::read::read(plan, Target::Aplx) {
         plan::read::Answer::Refused(_) => 0,
@@ -121,7 +121,7 @@ pub extern "C" fn reidhintsje_pack_aplx(
 
 // The length of an image's plan, or 0 where the image is refused.
 fn plan_length(image: &[u8]) -> u64
-    ensures { λ r. ⌜ r ≡ imageLength planBytes (readImage (now (image .entry))) ⌝ }
+    ensures { λ r. ⌜ r ≡ writtenLength planBytes (readImage (now (image .entry))) ⌝ }
 {
     match aplx_read::image::read(image) {
         plan::read::Answer::Refused(_) => 0,

@@ -1,4 +1,4 @@
--- What a packer's code asks and answers, in the terms of the definitions.
+-- What the code of a packer, and of the reader of images, asks and answers, in the terms of the definitions.
 pub mod Laws
 use mathlib.Core.Path.{_≡_}
 use mathlib.Core.List.{List}

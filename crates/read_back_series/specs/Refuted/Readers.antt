@@ -16,7 +16,7 @@ use Rattle.aplx_read.specs.PlanBytes.{table, planBytes}
 use Rattle.aplx_read.specs.ReadBack.{Entry, bad, judgeCount, judgeRange, judgeCopy, judgeWords, entryAt, next, readEntries, readImage, readBack}
 use Rattle.read_back_series.specs.Claims.{Reader}
 
--- ---- ours, with another reading of an entry's words
+-- ---- ours, with another reading of an entry's words (`ours-by-words`: with our own it is ours)
 -- the image, the entry's index, and its four words
 abbrev Words : Type 0
 Words = List ℕ → ℕ → ℕ → ℕ → ℕ → ℕ → Entry

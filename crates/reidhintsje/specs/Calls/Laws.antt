@@ -14,7 +14,7 @@ use Rattle.outcome_numbers.specs.declared.numbers.Parts.{Parts}
 use Rattle.flood_fill.specs.Answer.{Answer}
 use Rattle.outcome_numbers.specs.Numbers.{numbers, first, loadParts, replyParts, packedParts, packNumbers, messageParts, messageNumbers}
 use Rattle.outcome_numbers.specs.Numbers.Laws.{tooSmall, other-parts}
-use Rattle.reidhintsje.specs.Calls.{loading, answering, imageLength}
+use Rattle.reidhintsje.specs.Calls.{loading, answering, writtenLength}
 
 -- a call that returned n and left the numbers l, written from the parts x
 module _ {n : ℕ} {l : List ℕ} {x : Parts} (f : (n ≡ x .refusal) × (l ≡ numbers x)) where
@@ -48,6 +48,6 @@ module _ {n : ℕ} {l : List ℕ} {x : Parts} (f : (n ≡ x .refusal) × (l ≡ 
   message-call p e = put-call (p ∙ ap messageParts e)
 
 -- a refused plan has no image
-pub imageless : (image : List Piece → List ℕ) (r : Read) {n i : ℕ} → outcomeOf r ≡ refuses n i → 0 ≡ imageLength image r
+pub imageless : (image : List Piece → List ℕ) (r : Read) {n i : ℕ} → outcomeOf r ≡ refuses n i → 0 ≡ writtenLength image r
 imageless image (refused x j) e = refl
 imageless image (pieces ps) e = let z : _≡_ {A = ℕ} 0 1 = cc in absurd (omega arith)

@@ -3,7 +3,7 @@ use borrow.Author.Needs.{needs}
 use mathlib.Core.Path.{sym, _∙_}
 use Rattle.aplx_read.specs.PlanBytes.{planBytes}
 use Rattle.aplx_read.specs.ReadBack.{readImage}
-use Rattle.reidhintsje.specs.Calls.{imageLength}
+use Rattle.reidhintsje.specs.Calls.{writtenLength}
 use Rattle.reidhintsje.specs.Calls.Laws.{small-call, other-call}
 use Rattle.reidhintsje.proofs.plans.reidhintsje_aplx_read.Statement.{statement}
 use Rattle.reidhintsje.proofs.plans.reidhintsje_aplx_read.Tie as tie
@@ -44,7 +44,7 @@ same-length-2 c = search needs
 returns-2 : tie.Need-returns-2
 returns-2 c =
     let a = c .before .before .before .before .before .before .before .read-back .ensures in
-    let k = imageLength planBytes (readImage (c .before .before .before .before .before .before .before .before .before .before .before .args .image .now)) in
+    let k = writtenLength planBytes (readImage (c .before .before .before .before .before .before .before .before .before .before .before .args .image .now)) in
     let g = other-call (c .put2 .ensures) 0 k (a .0) (c .before .packed-parts2 .ensures) (sym (c .before .before .before .before .too-small .ensures) ∙ c .before .before .before .if1 .left) in
     (g .0, (g .1, a .1))
 
