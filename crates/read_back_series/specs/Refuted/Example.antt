@@ -5,10 +5,7 @@ use mathlib.Core.List.{List, [], _∷_, _++_}
 use Prim.Native.Nat.{ℕ, _+_, _*_, _≤_}
 use lib.Dec.{ltb}
 use lib.ListN.{length, getD, replicate}
-use borrow.Author.Tests.{ltb-true}
 use Rattle.words.specs.Choice.{every}
-use Rattle.words.specs.Choice.Laws.{every-all, all-map}
-use Rattle.words.specs.Bytes.{Bytes}
 use Rattle.words.specs.Four.{fourBytes}
 use Rattle.memory_map.specs.declared.map.Map.{Map}
 use Rattle.outcome.specs.Outcome.{end, unknown, run, Ending, stops, refuses}
@@ -24,6 +21,7 @@ use Rattle.series.specs.Series.{Step, Left, series}
 use Rattle.series.specs.Medium.{aplx, endingIn, InMemory}
 use Rattle.series.specs.Software as software
 use Rattle.series.specs.Demand.{Granted}
+use Rattle.series.specs.Refuted.Example.{all-bytes, firstLeft}
 use Rattle.series.specs.Refuted.Twice.{leftBy}
 use Rattle.aplx_read.specs.PlanBytes.{planBytes}
 use Rattle.aplx_read.specs.ReadBack.{readImage}
@@ -50,10 +48,6 @@ record OurReading : Type 0 where
 our-reading : OurReading
 unfolding image read-group.reader
 our-reading = record { copies = refl; twenty = refl; unknown-word = refl; acopy = refl; fill-of-48 = refl }
-
--- a list of bytes, by computing
-pub all-bytes : (s : List ℕ) → every (λ b. ltb b 256) s ≡ true → Bytes s
-all-bytes s e = all-map _ _ s (λ x. ltb-true x 256) (every-all (λ b. ltb b 256) s e)
 
 -- ---- one load
 -- a map that is sound for the memory, its lookup, which computes, and an image at an address
@@ -93,11 +87,7 @@ load-means read claims image ps r {find} {address} {memory} s i h =
     let steps : List Step = record { index = i; changes = [] } ∷ [] in
     let g : Granted (aplx address) (s .map) ps image memory steps = record { sound-map = s .safe; intact = s .intact; indices = (h, tt); alone = (tt, tt) } in
     let t = rw (← q) at (d .same (s .map) memory steps (rw q at g)) in
-    rw (sound-load (s .map) memory (address + 16 * i) (s .safe), s .finds) at (ap first t)
-  where
-    first : List Left → Left
-    first [] = record { memory = []; ending = stops (end 0) }
-    first (l ∷ ls) = l
+    rw (sound-load (s .map) memory (address + 16 * i) (s .safe), s .finds) at (ap firstLeft t)
 
 -- ---- what is compared
 unfoldable pub byteAt : ℕ → Left → ℕ

@@ -6,10 +6,11 @@ use Prim.Native.Nat.{ℕ}
 use native.Mathlib.Omega.{arith}
 use Rattle.words.specs.Open as words-group
 use Rattle.plan.specs.Plan.{fill}
+use Rattle.series.specs.Refuted.Example.{all-bytes}
 use Rattle.aplx_read.specs.Open as read-group
 use Rattle.read_back_series.specs.Exact.{Exact}
 use Rattle.read_back_series.specs.Refuted.Readers.{entryBy, readBy, roundsLengths}
-use Rattle.read_back_series.specs.Refuted.Example.{image, all-bytes}
+use Rattle.read_back_series.specs.Refuted.Example.{image}
 
 -- the second entry is a fill of 48 bytes
 pub rounds-lengths-refuted : Exact roundsLengths → ⊥

@@ -9,6 +9,7 @@ use Rattle.plan.specs.Plan.{Piece, put}
 use Rattle.plan.specs.Packed.{Packed, refuses, packs}
 use Rattle.plan.specs.Packed.Laws.{fitting-packed}
 use Rattle.series.specs.Software as software
+use Rattle.series.specs.Refuted.Example.{all-bytes}
 use Rattle.series.specs.Refuted.Packers.{sorted, inserted}
 use Rattle.aplx_pack.specs.Image.{aplxImage}
 use Rattle.aplx_pack.specs.Open as pack-group
@@ -17,7 +18,6 @@ use Rattle.aplx_read.specs.ReadBack.{readImage}
 use Rattle.aplx_read.specs.Open as read-group
 use Rattle.read_back_series.specs.Claims.{Claims}
 use Rattle.read_back_series.specs.Refuted.Readers.{sortedBytes, sortsData, never}
-use Rattle.read_back_series.specs.Refuted.Example.{all-bytes}
 
 -- two puts, the second at the lower address
 unfoldable two : List Piece

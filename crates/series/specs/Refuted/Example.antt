@@ -13,7 +13,7 @@ use Rattle.words.specs.Bytes.{Bytes}
 use Rattle.memory_region.specs.declared.region.Region.{Region}
 use Rattle.memory_region.specs.declared.region.Right.the-variants.{Read}
 use Rattle.memory_map.specs.declared.map.Map.{Map}
-use Rattle.outcome.specs.Outcome.{Loaded}
+use Rattle.outcome.specs.Outcome.{end, stops, Loaded}
 use Rattle.memory_map.specs.Map.{sound, emptyMap, add}
 use Rattle.memory_map.specs.Lookup.{at, Lookup, lookupIn, lookup}
 use Rattle.memory_map.specs.Lookup.Laws.{lookup-is}
@@ -93,6 +93,15 @@ in-memory {image} e f g h = record {
 }
 
 -- ---- loads
+-- a list of bytes, by computing
+pub all-bytes : (s : List ℕ) → every (λ b. ltb b 256) s ≡ true → Bytes s
+all-bytes s e = all-map _ _ s (λ x. ltb-true x 256) (every-all (λ b. ltb b 256) s e)
+
+-- what the first of some loads left
+abbrev pub firstLeft : List Left → Left
+firstLeft [] = record { memory = []; ending = stops (end 0) }
+firstLeft (l ∷ ls) = l
+
 -- under demand 3, the loads of a series leave what the plan means
 module _ (s : Software) (demand : Demand3 s) (k : Medium) {plan image : List ℕ} {ps : List Piece} where
   pub same-series :
@@ -100,8 +109,7 @@ module _ (s : Software) (demand : Demand3 s) (k : Medium) {plan image : List ℕ
       → All (λ t. All (Spares k example image) (t .changes)) steps
       → series (loads s k example ps image) steps (memoryWith image) ≡ series (means k example ps) steps (memoryWith image)
   same-series reads lies e steps indices alone =
-      let b : Bytes plan = all-map _ _ plan (λ x. ltb-true x 256) (every-all (λ b. ltb b 256) plan (reads .bytes)) in
-      let h = demand k plan 256 image b e in
+      let h = demand k plan 256 image (all-bytes plan (reads .bytes)) e in
       let r = h .read in
       let t = reads .read in
       let q : ps ≡ h .pieces = cc in
@@ -119,11 +127,7 @@ module _ (s : Software) (demand : Demand3 s) (k : Medium) {plan image : List ℕ
       → getD (loads s k example ps image 0 (memoryWith image) .memory) p 0 ≡ getD (meaning find ps 0 (memoryWith image) .memory) p 0
   unfolding series
   left reads lies e p =
-      rw finds at (ap (λ (l : List Left). getD (first l) p 0) (same-series reads lies e (record { index = 0; changes = [] } ∷ []) (omega arith, tt) (tt, tt)))
-    where
-      first : List Left → List ℕ
-      first [] = []
-      first (l ∷ ls) = l .memory
+      rw finds at (ap (λ (l : List Left). getD (firstLeft l .memory) p 0) (same-series reads lies e (record { index = 0; changes = [] } ∷ []) (omega arith, tt) (tt, tt)))
 
 -- ---- software with one part replaced
 abbrev pub packingSrom : (List ℕ → ℕ → Packed) → Software

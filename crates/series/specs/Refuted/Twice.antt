@@ -10,7 +10,7 @@ use Rattle.words.specs.Choice.{All, if_then_else_}
 use Rattle.words.specs.Range.{meets}
 use Rattle.words.specs.Open as words-group
 use Rattle.memory_region.specs.declared.region.Right.the-variants.{Read}
-use Rattle.outcome.specs.Outcome.{end, stops, refuses, endingOf, Loaded}
+use Rattle.outcome.specs.Outcome.{refuses, endingOf, Loaded}
 use Rattle.memory_map.specs.Map.{sound}
 use Rattle.memory_map.specs.Lookup.{Lookup, at, placeOf}
 use Rattle.memory_map.specs.Lookup.Laws.{found-place}
@@ -30,7 +30,7 @@ use Rattle.series.specs.Series.{Change, changed, Step, Left, series}
 use Rattle.series.specs.Medium.{Medium, srom, aplx, startOf, endingIn, Spares}
 use Rattle.series.specs.Software.{Software, packed}
 use Rattle.series.specs.Demand.{loads, means, Demand3}
-use Rattle.series.specs.Refuted.Example.{example, find, finds, memoryWith, Lies, in-slice, in-memory, same-series}
+use Rattle.series.specs.Refuted.Example.{example, find, finds, memoryWith, Lies, in-slice, in-memory, firstLeft, same-series}
 use Rattle.series.specs.Refuted.Plans.{twoRuns, four-pieces, reads-runs}
 
 -- ---- the series
@@ -50,18 +50,11 @@ second-same :
     (f g : ℕ → List ℕ → Left) (m : List ℕ) → series f twice m ≡ series g twice m
     → f 2 (changed code (g 0 m .memory)) ≡ g 2 (changed code (g 0 m .memory))
 unfolding series
-second-same f g m e = let a : f 0 m ≡ g 0 m = ap first e in rw a at (ap second e)
+second-same f g m e = let a : f 0 m ≡ g 0 m = ap firstLeft e in rw a at (ap second e)
   where
-    none : Left
-    none = record { memory = []; ending = stops (end 0) }
-
-    first : List Left → Left
-    first [] = none
-    first (l ∷ ls) = l
-
     second : List Left → Left
-    second [] = none
-    second (l ∷ ls) = first ls
+    second [] = firstLeft []
+    second (l ∷ ls) = firstLeft ls
 
 -- ---- the second load
 -- the memory that it finds: what the first stretch means, as the called code changed it
