@@ -13,9 +13,11 @@ use Rattle.plan.specs.declared.piece.Piece as code-piece
 use Rattle.plan.specs.declared.piece.Piece.the-variants.{Put, Fill, Run}
 use Rattle.plan.specs.declared.piece.Judged as code-judged
 use Rattle.plan.specs.declared.piece.Judged.the-variants as judged
+use Rattle.plan.specs.declared.read.Header as code-header
+use Rattle.plan.specs.declared.read.Header.the-variants as header
 use Rattle.plan.specs.declared.read.Answer as code-answer
 use Rattle.plan.specs.declared.read.Answer.the-variants as answer
-use Rattle.plan.specs.Plan.{Piece, putBytes, fillBytes, Row, putRow, fillRow, runRow, pieceIn, Judged, good, bad, Read, refused, pieces}
+use Rattle.plan.specs.Plan.{Piece, putBytes, fillBytes, Row, putRow, fillRow, runRow, pieceIn, Judged, good, bad, Read, refused, pieces, HeaderJudged, counts, fails}
 
 -- the unit that a medium's lengths are multiples of
 abbrev pub unitOf : Target → ℕ
@@ -43,6 +45,10 @@ rowIs (Run a) = runRow a
 abbrev pub judgedIs : code-judged.Judged → Judged
 judgedIs (judged.Good p) = good (rowIs p)
 judgedIs (judged.Bad n) = bad n
+
+abbrev pub headerIs : code-header.Header → HeaderJudged
+headerIs (header.Good k) = counts k
+headerIs (header.Bad n) = fails n
 
 -- the row of a piece of a plan that was read; a run at 0 where the tests refuse it
 abbrev pub rowOf : Judged → Row

@@ -144,11 +144,25 @@ unfoldable pub readPieces : ℕ → List ℕ → ℕ → ℕ → Read
 readPieces unit s zero i = pieces []
 readPieces unit s (suc k) i = next s (pieceAt unit s i) i (readPieces unit s k (suc i))
 
--- "Order: under 16 bytes, 2; count over 64, 11; table, then data, ending past the plan (offset + length, even if empty), 2. Per piece"
+-- what the tests of the header give
+pub data HeaderJudged : Type 0 where
+  counts : ℕ → HeaderJudged  -- the number of pieces
+  fails : ℕ → HeaderJudged  -- number
+
+-- "Order: under 16 bytes, 2; count over 64, 11; table, then data, ending past the plan (offset + length, even if empty), 2."
+unfoldable pub judgeHeader : List ℕ → HeaderJudged
+judgeHeader s =
+    if ltb (length s) 16 then fails 2
+    else if ltb 64 (countOf s) then fails 11
+    else if ltb (length s) (tableOf s + 16 * countOf s) then fails 2
+    else if ltb (length s) (dataAt s + dataLength s) then fails 2
+    else counts (countOf s)
+
+-- the header, and what follows it: by the number of pieces
+abbrev pub headed : HeaderJudged → (ℕ → Read) → Read
+headed (counts k) r = r k
+headed (fails n) r = refused n 0
+
+-- "Per piece"
 unfoldable pub readPlan : ℕ → List ℕ → Read
-readPlan unit s =
-    if ltb (length s) 16 then refused 2 0
-    else if ltb 64 (countOf s) then refused 11 0
-    else if ltb (length s) (tableOf s + 16 * countOf s) then refused 2 0
-    else if ltb (length s) (dataAt s + dataLength s) then refused 2 0
-    else readPieces unit s (countOf s) 0
+readPlan unit s = headed (judgeHeader s) (λ k. readPieces unit s k 0)

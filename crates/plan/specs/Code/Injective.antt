@@ -11,14 +11,16 @@ use Rattle.plan.specs.declared.piece.Piece.{Piece}
 use Rattle.plan.specs.declared.piece.Piece.the-variants.{Put, Fill, Run}
 use Rattle.plan.specs.declared.piece.Judged as code-judged
 use Rattle.plan.specs.declared.piece.Judged.the-variants.{Good, Bad}
+use Rattle.plan.specs.declared.read.Header as code-header
+use Rattle.plan.specs.declared.read.Header.the-variants as header
 use Rattle.plan.specs.declared.read.Answer as read
 use Rattle.plan.specs.declared.read.Answer.the-variants as read-answer
 use Rattle.plan.specs.declared.packed.Answer as packed
 use Rattle.plan.specs.declared.packed.Answer.the-variants as packed-answer
-use Rattle.plan.specs.Plan.{Row, putRow, fillRow, runRow, Judged, good, bad}
+use Rattle.plan.specs.Plan.{Row, putRow, fillRow, runRow, Judged, good, bad, HeaderJudged, counts, fails}
 use Rattle.plan.specs.Packed.{refusal, sized}
 use Rattle.plan.specs.Packed as packing
-use Rattle.plan.specs.Code.{unitOf, rowIs, judgedIs, Outcome, refuses, reads, outcomeIs}
+use Rattle.plan.specs.Code.{unitOf, rowIs, judgedIs, headerIs, Outcome, refuses, reads, outcomeIs}
 use Rattle.plan.specs.Code.Packer as packer
 
 -- the medium
@@ -57,6 +59,18 @@ judged-back (Bad n) = refl
 
 pub judgedIs-injective : (x y : code-judged.Judged) → judgedIs x ≡ judgedIs y → x ≡ y
 judgedIs-injective = back-injective judgedIs judgedBack judged-back
+
+-- what the tests of the header give
+abbrev headerBack : HeaderJudged → code-header.Header
+headerBack (counts k) = header.Good k
+headerBack (fails n) = header.Bad n
+
+header-back : (x : code-header.Header) → headerBack (headerIs x) ≡ x
+header-back (header.Good k) = refl
+header-back (header.Bad n) = refl
+
+pub headerIs-injective : (x y : code-header.Header) → headerIs x ≡ headerIs y → x ≡ y
+headerIs-injective = back-injective headerIs headerBack header-back
 
 -- the reader's answer
 abbrev readBack : Outcome → read.Answer

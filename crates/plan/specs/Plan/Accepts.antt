@@ -7,7 +7,7 @@ use lib.ListN.{length}
 use borrow.Author.Tests.{le-ltb, eq-eqb, ne-eqb}
 use Rattle.words.specs.declared.four.Four.{Four}
 use Rattle.words.specs.Four.{fourAt}
-use Rattle.plan.specs.Plan.{Piece, countOf, tableOf, dataAt, dataLength, Row, putRow, fillRow, runRow, pieceIn, good, judgeRun, judgeFill, judgeData, judgePut, judgeKind, judgeAt, pieceAt, pieces, readPieces, readPlan}
+use Rattle.plan.specs.Plan.{Piece, countOf, tableOf, dataAt, dataLength, Row, putRow, fillRow, runRow, pieceIn, good, judgeRun, judgeFill, judgeData, judgePut, judgeKind, judgeAt, pieceAt, pieces, readPieces, judgeHeader, readPlan}
 use Rattle.plan.specs.Packable.{Sized}
 use Rattle.plan.specs.Plan.Laws.{Header}
 
@@ -57,7 +57,7 @@ module _ (unit : ℕ) (s : List ℕ) where
 
   -- ---- the whole plan
   pub header-read : {ps : List Piece} → Header unit s ps → readPlan unit s ≡ pieces ps
-  unfolding readPlan
+  unfolding readPlan judgeHeader
   header-read h =
       rw (
         le-ltb (length s) 16 (h .long),

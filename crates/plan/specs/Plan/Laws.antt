@@ -1,5 +1,5 @@
 -- Laws of the reader of plans: what a plan that was read is, and what its pieces are.
-use mathlib.Core.Path.{_≡_, sym}
+use mathlib.Core.Path.{_≡_, refl, sym}
 use mathlib.Core.Bool.{false, not, _&&_}
 use mathlib.Core.List.{List}
 use Prim.Native.Nat.{ℕ, _+_, _*_, _%_, _≤_, _<_}
@@ -10,12 +10,46 @@ use lib.ListN.{length, take, drop, getD, length-drop}
 use lib.Seq.{length-take-le}
 use borrow.Author.Tests.{ltb-false, eqb-true, eqb-false, not-false}
 use Rattle.words.specs.Choice.{All}
-use Rattle.words.specs.Choice.Laws.{from-else, from-either}
+use Rattle.words.specs.Choice.Laws.{from-else, from-either, all-take, all-drop}
 use Rattle.words.specs.Bytes.{littleEndianAt, Bytes}
 use Rattle.words.specs.Bytes.Laws.{little-at-below}
-use Rattle.plan.specs.Plan.{Piece, countOf, tableOf, dataAt, dataLength, Row, putRow, fillRow, runRow, pieceIn, good, judgeRun, judgeFill, judgeData, judgePut, judgeKind, judgeAt, pieceAt, pieces, readPieces, readPlan}
+use Rattle.plan.specs.Plan.{Piece, dataOf, countOf, tableOf, dataAt, dataLength, Row, putRow, fillRow, runRow, pieceIn, good, judgeRun, judgeFill, judgeData, judgePut, judgeKind, judgeAt, pieceAt, Read, pieces, readPieces, HeaderJudged, counts, fails, judgeHeader, headed, readPlan}
 use Rattle.plan.specs.Packable.{Sized, Packable}
 use Rattle.plan.specs.Plan.Steps.{refused-no-pieces, bad-no-good, pieces-count, pieces-each, RowAt, pieces-at}
+
+-- ---- a header that passes its tests
+fails-no-counts : {n k : ℕ} → fails n ≡ counts k → ⊥
+fails-no-counts e = let z : _≡_ {A = ℕ} 0 1 = cc in omega arith
+
+pub record HeaderPassed (s : List ℕ) (k : ℕ) : Type 0 where
+  pub long : 16 ≤ length s
+  pub few : countOf s ≤ 64
+  pub table : tableOf s + 16 * countOf s ≤ length s
+  pub data-inside : dataAt s + dataLength s ≤ length s
+  pub count : countOf s ≡ k
+
+pub header-passed : (s : List ℕ) {k : ℕ} → judgeHeader s ≡ counts k → HeaderPassed s k
+unfolding judgeHeader
+header-passed s e =
+    let p = from-else (ltb (length s) 16) fails-no-counts e in
+    let q = from-else (ltb 64 (countOf s)) fails-no-counts (p .1) in
+    let t = from-else (ltb (length s) (tableOf s + 16 * countOf s)) fails-no-counts (q .1) in
+    let d = from-else (ltb (length s) (dataAt s + dataLength s)) fails-no-counts (t .1) in
+    record {
+      long = ltb-false _ _ (p .0);
+      few = ltb-false _ _ (q .0);
+      table = ltb-false _ _ (t .0);
+      data-inside = ltb-false _ _ (d .0);
+      count = cc (d .1);
+    }
+
+-- the pieces are read behind it
+pub headed-pieces : (s : List ℕ) (r : ℕ → Read) {ps : List Piece} → headed (judgeHeader s) r ≡ pieces ps → HeaderPassed s (countOf s) × (r (countOf s) ≡ pieces ps)
+headed-pieces s r {ps} e = go (judgeHeader s) refl e
+  where
+    go : (h : HeaderJudged) → judgeHeader s ≡ h → headed h r ≡ pieces ps → HeaderPassed s (countOf s) × (r (countOf s) ≡ pieces ps)
+    go (counts k) f e = let p = header-passed s f in (rw (← p .count) at p, rw (← p .count) at e)
+    go (fails n) f e = absurd (refused-no-pieces e)
 
 -- ---- a plan that was read
 pub record Header (unit : ℕ) (s : List ℕ) (ps : List Piece) : Type 0 where
@@ -29,17 +63,9 @@ module _ (unit : ℕ) (s : List ℕ) {ps : List Piece} (e : readPlan unit s ≡ 
   pub read-header : Header unit s ps
   unfolding readPlan
   read-header =
-      let p = from-else (ltb (length s) 16) refused-no-pieces e in
-      let q = from-else (ltb 64 (countOf s)) refused-no-pieces (p .1) in
-      let t = from-else (ltb (length s) (tableOf s + 16 * countOf s)) refused-no-pieces (q .1) in
-      let d = from-else (ltb (length s) (dataAt s + dataLength s)) refused-no-pieces (t .1) in
-      record {
-        long = ltb-false _ _ (p .0);
-        few = ltb-false _ _ (q .0);
-        table = ltb-false _ _ (t .0);
-        data-inside = ltb-false _ _ (d .0);
-        rest = d .1;
-      }
+      let p = headed-pieces s (λ k. readPieces unit s k 0) e in
+      let h = p .0 in
+      record { long = h .long; few = h .few; table = h .table; data-inside = h .data-inside; rest = p .1 }
 
   pub read-count : length ps ≡ countOf s
   read-count = pieces-count unit s (countOf s) 0 (read-header .rest)
@@ -125,3 +151,12 @@ module _ (unit : ℕ) (s : List ℕ) where
   packable b e =
       let h = read-header unit s e in
       pieces-each unit s (Packable unit) (λ i row g. row-packable (h .data-inside) row (row-passed unit s b i g)) (countOf s) 0 (h .rest)
+
+  -- its data are bytes
+  row-bytes : Bytes s → (row : Row) → Bytes (dataOf (pieceIn s row))
+  row-bytes b (putRow a o n) = all-take _ n (drop o s) (all-drop _ o s b)
+  row-bytes b (fillRow a n w) = tt
+  row-bytes b (runRow a) = tt
+
+  pub read-bytes : Bytes s → {ps : List Piece} → readPlan unit s ≡ pieces ps → All (λ p. Bytes (dataOf p)) ps
+  read-bytes b e = pieces-each unit s (λ p. Bytes (dataOf p)) (λ i row g. row-bytes b row) (countOf s) 0 (read-header unit s e .rest)

@@ -21,7 +21,8 @@ use Rattle.series.specs.Series.{Step, Left, series}
 use Rattle.series.specs.Medium.{aplx, endingIn, InMemory}
 use Rattle.series.specs.Software as software
 use Rattle.series.specs.Demand.{Granted}
-use Rattle.series.specs.Refuted.Example.{all-bytes, firstLeft}
+use Rattle.series.specs.Refuted.Example.{firstLeft}
+use Rattle.words.specs.Bytes.Laws.{all-bytes}
 use Rattle.series.specs.Refuted.Twice.{leftBy}
 use Rattle.aplx_read.specs.PlanBytes.{planBytes}
 use Rattle.aplx_read.specs.ReadBack.{readImage}

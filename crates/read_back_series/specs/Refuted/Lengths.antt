@@ -6,7 +6,7 @@ use Prim.Native.Nat.{ℕ}
 use native.Mathlib.Omega.{arith}
 use Rattle.words.specs.Open as words-group
 use Rattle.plan.specs.Plan.{fill}
-use Rattle.series.specs.Refuted.Example.{all-bytes}
+use Rattle.words.specs.Bytes.Laws.{all-bytes}
 use Rattle.aplx_read.specs.Open as read-group
 use Rattle.read_back_series.specs.Exact.{Exact}
 use Rattle.read_back_series.specs.Refuted.Readers.{entryBy, readBy, roundsLengths}

@@ -9,7 +9,7 @@ use Rattle.plan.specs.Plan.{Piece, put}
 use Rattle.plan.specs.Packed.{Packed, refuses, packs}
 use Rattle.plan.specs.Packed.Laws.{fitting-packed}
 use Rattle.series.specs.Software as software
-use Rattle.series.specs.Refuted.Example.{all-bytes}
+use Rattle.words.specs.Bytes.Laws.{all-bytes}
 use Rattle.series.specs.Refuted.Packers.{sorted, inserted}
 use Rattle.aplx_pack.specs.Image.{aplxImage}
 use Rattle.aplx_pack.specs.Open as pack-group

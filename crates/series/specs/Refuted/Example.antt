@@ -6,10 +6,8 @@ use Prim.Native.Nat.{ℕ, _-_, _≤_}
 use native.Mathlib.Omega.{arith}
 use lib.Dec.{ltb}
 use lib.ListN.{length, take, getD, replicate}
-use borrow.Author.Tests.{ltb-true}
 use Rattle.words.specs.Choice.{All, every}
-use Rattle.words.specs.Choice.Laws.{every-all, all-map}
-use Rattle.words.specs.Bytes.{Bytes}
+use Rattle.words.specs.Bytes.Laws.{all-bytes}
 use Rattle.memory_region.specs.declared.region.Region.{Region}
 use Rattle.memory_region.specs.declared.region.Right.the-variants.{Read}
 use Rattle.memory_map.specs.declared.map.Map.{Map}
@@ -93,10 +91,6 @@ in-memory {image} e f g h = record {
 }
 
 -- ---- loads
--- a list of bytes, by computing
-pub all-bytes : (s : List ℕ) → every (λ b. ltb b 256) s ≡ true → Bytes s
-all-bytes s e = all-map _ _ s (λ x. ltb-true x 256) (every-all (λ b. ltb b 256) s e)
-
 -- what the first of some loads left
 abbrev pub firstLeft : List Left → Left
 firstLeft [] = record { memory = []; ending = stops (end 0) }

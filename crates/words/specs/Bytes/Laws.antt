@@ -1,13 +1,21 @@
 -- Laws of numbers as bytes, over the width.
 use mathlib.Core.Path.{_≡_, refl, ap, sym, _∙_}
+use mathlib.Core.Bool.{true}
 use mathlib.Core.List.{List, [], _∷_, _++_, reverse, reverse-reverse}
 use Prim.Native.Nat.{ℕ, zero, suc, _+_, _*_, _-_, _/_, _%_, _^_, _≤_, _<_}
 use native.Mathlib.Nat.{add-zero, pow-suc, div-div-eq-div-mul}
 use native.Mathlib.Omega.{arith}
+use lib.Dec.{ltb}
 use lib.ListN.{length, take, drop, getD, length-append, length-drop, length-reverse, drop-of-length-le}
 use lib.Seq.{drop-drop, drop-append-add, getD-drop, take-all, take-at}
-use Rattle.words.specs.Choice.Laws.{all-drop, all-reverse}
+use borrow.Author.Tests.{ltb-true}
+use Rattle.words.specs.Choice.{every}
+use Rattle.words.specs.Choice.Laws.{every-all, all-map, all-drop, all-reverse}
 use Rattle.words.specs.Bytes.{littleEndian, bigEndian, fromLittleEndian, fromBigEndian, firstBytes, littleEndianAt, bigEndianAt, Bytes}
+
+-- ---- a list of bytes, by computing
+pub all-bytes : (s : List ℕ) → every (λ b. ltb b 256) s ≡ true → Bytes s
+all-bytes s e = all-map _ _ s (λ x. ltb-true x 256) (every-all (λ b. ltb b 256) s e)
 
 -- ---- widths
 pub length-littleEndian : (k n : ℕ) → length (littleEndian k n) ≡ k

@@ -1,95 +1,47 @@
--- `plan::read::read` meets its contract: the tests of the header as the code makes them, and then the pieces.
-use mathlib.Core.Path.{_≡_, ap}
+-- `plan::read::read` meets its contract: the header, and then the pieces.
+use mathlib.Core.Path.{_≡_, ap, sym, _∙_}
 use native.Mathlib.Omega.{arith}
 use borrow.Author.Needs.{needs}
-use borrow.Author.Tests.{lt-ltb, le-ltb}
-use Prim.Native.Nat.{_+_, _*_}
-use lib.ListN.{length}
-use Rattle.words.specs.declared.four.Four.{Four}
-use Rattle.plan.specs.Plan.{countOf, tableOf, dataAt, dataLength, readPlan}
+use Rattle.plan.specs.Plan.{counts, judgeHeader, readPlan}
+use Rattle.plan.specs.Plan.Laws.{header-passed}
+use Rattle.plan.specs.Code.{headerIs}
 use Rattle.plan.proofs.read.read.Statement.{statement}
 use Rattle.plan.proofs.read.read.Tie as tie
 
--- the header's words
-header : (c : tie.After-read)
-    → let s = c .before .before .before .args .plan .now in
-    let h = c .read .result in
-    (h .first ≡ countOf s) × (h .second ≡ tableOf s) × (h .third ≡ dataAt s) × (h .fourth ≡ dataLength s)
-header c =
-    let e = c .read .ensures in
-    (ap (λ (w : Four). w .first) e, ap (λ (w : Four). w .second) e, ap (λ (w : Four). w .third) e, ap (λ (w : Four). w .fourth) e)
+judge-header-requires : tie.Need-judge-header-requires
+judge-header-requires c κs = search needs
+
+enum-known-count : tie.Need-enum-known-count
+enum-known-count c = search needs
+
+-- the header passed its tests
+passed : (c : tie.After-known-told) → judgeHeader (c .before .before .before .before .before .args .plan .now) ≡ counts (c .before .count .given .0 .0)
+passed c = sym (c .before .before .before .judge-header .ensures) ∙ ap headerIs (c .before .count .given .1)
+
+read-pieces-requires : tie.Need-read-pieces-requires
+read-pieces-requires c κs =
+    let p = header-passed (c .before .before .before .before .before .args .plan .now) (passed c) in
+    (omega (arith, p .few, p .count), p .data-inside)
+
+enum-known-number : tie.Need-enum-known-number
+enum-known-number c = search needs
 
 returns : tie.Need-returns
 unfolding readPlan
-returns c = let s = c .before .before .args .plan .now in
-    rw (lt-ltb (length s) 16 (omega arith))
-
-read-requires : tie.Need-read-requires
-read-requires c κs = search needs
+returns c = rw (passed (c .before)) (c .read-pieces .ensures)
 
 returns-2 : tie.Need-returns-2
 unfolding readPlan
-returns-2 c = let s = c .before .before .before .before .args .plan .now in
-    let h = header (c .before) in
-    rw (le-ltb (length s) 16 (omega arith), lt-ltb 64 (countOf s) (omega arith))
-
-cast-if3 : tie.Need-cast-if3
-cast-if3 c = search needs
-
-cast-if3-2 : tie.Need-cast-if3-2
-cast-if3-2 c = search needs
-
-mul-if3 : tie.Need-mul-if3
-mul-if3 c = search needs
-
-add-if3 : tie.Need-add-if3
-add-if3 c = search needs
-
-returns-3 : tie.Need-returns-3
-unfolding readPlan
-returns-3 c = let s = c .before .before .before .before .before .before .args .plan .now in
-    let h = header (c .before .before .before) in
-    rw (le-ltb (length s) 16 (omega arith), le-ltb 64 (countOf s) (omega arith), lt-ltb (length s) (tableOf s + 16 * countOf s) (omega arith))
-
-cast-if4 : tie.Need-cast-if4
-cast-if4 c = search needs
-
-cast-if4-2 : tie.Need-cast-if4-2
-cast-if4-2 c = search needs
-
-add-if4 : tie.Need-add-if4
-add-if4 c = search needs
-
-returns-4 : tie.Need-returns-4
-unfolding readPlan
-returns-4 c = let s = c .before .before .before .before .before .before .before .before .before .args .plan .now in
-    let h = header (c .before .before .before .before .before .before) in
-    rw (le-ltb (length s) 16 (omega arith), le-ltb 64 (countOf s) (omega arith), le-ltb (length s) (tableOf s + 16 * countOf s) (omega arith), lt-ltb (length s) (dataAt s + dataLength s) (omega arith))
-
-read-pieces-requires : tie.Need-read-pieces-requires
-read-pieces-requires c κs = let h = header (c .before .before .before .before .before .before) in (omega arith, omega arith)
-
-returns-5 : tie.Need-returns-5
-unfolding readPlan
-returns-5 c = let s = c .before .before .before .before .before .before .before .before .before .before .args .plan .now in
-    let h = header (c .before .before .before .before .before .before .before) in
-    rw (le-ltb (length s) 16 (omega arith), le-ltb 64 (countOf s) (omega arith), le-ltb (length s) (tableOf s + 16 * countOf s) (omega arith), le-ltb (length s) (dataAt s + dataLength s) (omega arith)) (rw (h .0) at (c .read-pieces .ensures))
+returns-2 c =
+    rw (sym (c .before .before .before .judge-header .ensures) ∙ ap headerIs (c .before .number .given .1))
 
 pub read-spec : {M : Type 1} → statement M
 read-spec =
     tie.close
     (tie.spec
-    returns
-    read-requires
-    returns-2
-    cast-if3
-    cast-if3-2
-    mul-if3
-    add-if3
-    returns-3
-    cast-if4
-    cast-if4-2
-    add-if4
-    returns-4
+    judge-header-requires
+    enum-known-count
     read-pieces-requires
-    returns-5)
+    enum-known-number
+    returns
+    returns-2)
