@@ -10,7 +10,8 @@ use Rattle.aplx_pack.specs.Open as aplx
 use Rattle.srom_pack.specs.Image.{sromImage}
 use Rattle.srom_pack.specs.Open as srom
 use Rattle.aplx_read.specs.Open as read-back
-use Rattle.text.specs.Decimal.{leading, width, digits, decimal}
+use Rattle.text.specs.Digits.{digits}
+use Rattle.text.specs.Decimal.{leading, width, decimal}
 use Rattle.text.specs.Refusal.{refusalLine}
 use Rattle.conversion.specs.declared.convert.Medium.the-variants.{Aplx, Srom}
 use Rattle.conversion.specs.declared.read_back.Written.the-variants.{Bytes, TooLong}

@@ -1,9 +1,10 @@
 -- A number in decimal digits, as bytes of text.
 pub mod Laws
-use mathlib.Core.List.{List, [], _∷_, _++_}
-use Prim.Native.Nat.{ℕ, zero, suc, _+_, _/_, _%_}
+use mathlib.Core.List.{List}
+use Prim.Native.Nat.{ℕ, zero, suc, _+_, _/_}
 use lib.Dec.{eqb}
 use Rattle.words.specs.Choice.{if_then_else_}
+use Rattle.text.specs.Digits.{digits}
 
 -- how many more digits stand before the last one: those of the quotient by 10, of which k are counted at most
 unfoldable pub leading : ℕ → ℕ → ℕ
@@ -14,10 +15,5 @@ leading (suc k) rest = if eqb rest 0 then 0 else suc (leading k (rest / 10))
 unfoldable pub width : ℕ → ℕ
 width n = 1 + leading 19 (n / 10)
 
--- the last k digits, with zeros in front where there are fewer
-unfoldable pub digits : ℕ → ℕ → List ℕ
-digits zero n = []
-digits (suc k) n = digits k (n / 10) ++ (48 + n % 10) ∷ []
-
 unfoldable pub decimal : ℕ → List ℕ
-decimal n = digits (width n) n
+decimal n = digits 10 (width n) n

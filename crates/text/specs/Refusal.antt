@@ -6,7 +6,8 @@ use Prim.Native.Nat.{ℕ}
 use lib.Dec.{leb}
 use lib.ListN.{length}
 use Rattle.words.specs.Choice.{if_then_else_}
-use Rattle.text.specs.Decimal.{leading, width, digits, decimal}
+use Rattle.text.specs.Digits.{digits}
+use Rattle.text.specs.Decimal.{leading, width, decimal}
 
 -- "refused N at P" and a newline
 unfoldable pub refusalLine : ℕ → ℕ → List ℕ

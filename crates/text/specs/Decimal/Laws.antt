@@ -1,25 +1,20 @@
 -- Laws of decimal digits.
-use mathlib.Core.Path.{_≡_, refl, sym, _∙_}
+use mathlib.Core.Path.{_≡_, refl}
 use mathlib.Core.Bool.{Bool, true, false}
-use mathlib.Core.List.{List, [], _∷_, _++_, append-assoc, append-nil}
-use Prim.Native.Nat.{ℕ, zero, suc, _+_, _-_, _/_, _%_, _≤_, _<_}
-use native.Mathlib.Nat.{add-zero}
+use mathlib.Core.List.{[], _∷_}
+use Prim.Native.Nat.{ℕ, zero, suc, _+_, _-_, _/_, _≤_, _<_}
 use native.Mathlib.Omega.{arith}
 use lib.Dec.{eqb}
-use lib.ListN.{length, drop, set, length-append, drop-of-length-le}
-use lib.Seq.{drop-cons, drop-set-add}
+use lib.ListN.{length}
 use borrow.Author.Tests.{eq-eqb, ne-eqb}
 use Rattle.words.specs.Choice.{if_then_else_}
-use Rattle.text.specs.Decimal.{leading, width, digits, decimal}
-
-pub length-digits : (k n : ℕ) → length (digits k n) ≡ k
-unfolding digits
-length-digits zero n = refl
-length-digits (suc k) n = rw (length-append, length-digits k (n / 10)) (omega arith)
+use Rattle.text.specs.Digits.{digits}
+use Rattle.text.specs.Digits.Laws.{length-digits}
+use Rattle.text.specs.Decimal.{leading, width, decimal}
 
 pub length-decimal : (n : ℕ) → length (decimal n) ≡ width n
 unfolding decimal
-length-decimal n = length-digits (width n) n
+length-decimal n = length-digits 10 (width n) n
 
 -- ---- counting the digits, with `count` of them counted
 pub width-start : (n : ℕ) → 1 + leading (20 - 1) (n / 10) ≡ width n
@@ -52,20 +47,6 @@ leading-most (suc k) rest = go (eqb rest 0) (leading-most k (rest / 10))
 pub width-most : (n : ℕ) → width n ≤ 20
 unfolding width
 width-most n = omega (arith, leading-most 19 (n / 10))
-
--- ---- writing the digits from the last on: i of them are left
-pub digits-start : (part : List ℕ) (n : ℕ) → digits (length part) n ++ drop (length part) part ≡ digits (length part) n
-digits-start part n = rw (drop-of-length-le part {i = length part} (omega arith)) (append-nil (digits (length part) n))
-
-pub digits-next : (part : List ℕ) (i rest : ℕ) → 0 < i → i ≤ length part
-    → digits (i - 1) (rest / 10) ++ drop (i - 1) (set part (i - 1) (48 + rest % 10)) ≡ digits i rest ++ drop i part
-unfolding digits
-digits-next part zero rest h g = absurd (omega arith)
-digits-next part (suc j) rest h g =
-    let z : suc j - 1 ≡ j = omega arith in
-    let e : drop j (set part j (48 + rest % 10)) ≡ (48 + rest % 10) ∷ drop (suc j) part =
-    rw (add-zero j) at (drop-set-add j part 0 (48 + rest % 10)) ∙ rw (drop-cons part j 0 (omega arith)) in
-    rw (z, e) (sym (append-assoc (digits j (rest / 10)) ((48 + rest % 10) ∷ []) (drop (suc j) part)))
 
 -- worked examples
 pub record Examples : Type 0 where
