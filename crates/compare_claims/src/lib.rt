@@ -1,0 +1,1 @@
+// What is claimed of two plans that are compared: definitions and theorems only.
