@@ -1,5 +1,5 @@
 """An independent second program: the rules of paper 01, of images read back and of flood fill in Python, written from the papers and not
-from the specs.
+from the specs. Two plans are compared in comparison.py.
 
 It makes the expected output of the program replay (see replay.py). Nothing of the product depends on it.
 
@@ -252,8 +252,8 @@ def scp_answer(regions, memory, identity, packet, output):
 
 # ---- plans
 
-def read_plan(plan, unit):
-    """The pieces of a plan; unit is 32 for APLX, 4 for SROM, 1 where 12 is not tested."""
+def read_plan(plan, unit, ends=False):
+    """The pieces of a plan; unit is 32 for APLX, 4 for SROM, 1 where 12 is not tested; ends: 19 is tested."""
     def word(at):
         return int.from_bytes(plan[at:at + 4], 'little')
 
@@ -286,6 +286,8 @@ def read_plan(plan, unit):
             raise Refused(2, index)
         if size % unit:
             raise Refused(12, index)
+        if ends and address + size > 2 ** 32:
+            raise Refused(19, index)
         if kind == 1:
             pieces.append(('put', address, bytes(plan[data + last:data + last + size])))
         else:

@@ -1,13 +1,16 @@
 #!/usr/bin/env python3
-"""The inputs of the programs plan_to_aplx, plan_to_srom, aplx_to_plan, conversion_cases and flood_fill_cases, and what each must write.
+"""The inputs of the programs plan_to_aplx, plan_to_srom, aplx_to_plan, compare_plans, conversion_cases, comparison_cases and flood_fill_cases,
+and what each must write.
 
-programs.py write: stores them as crates/NAME/stdin, stdout and data/FILE.
+programs.py write: stores them as crates/NAME/stdin, stdout and data/FILE, and the comparison of the example plans as
+examples/compare.expected.
 programs.py: fails where a stored file is another, or another file is stored.
 """
 import os
 import sys
 
 import model
+from comparison import compare_plans
 from model import aplx_to_plan, plan_to_aplx, plan_to_srom
 
 here = os.path.dirname(os.path.abspath(__file__))
@@ -40,6 +43,7 @@ long = bytes(k * 5 % 251 for k in range(32720))
 put_and_fill = [(1, 0x60000000, len(long), 0), (2, 0x60010000, 32800, 0x01020304)]
 
 coefficients = hex_text('coefficients.plan.hex')
+recalibrated = hex_text('recalibrated.plan.hex')
 
 # the plans of conversion_cases, in the order in which it converts them
 plans = {
@@ -101,6 +105,78 @@ def case(name, kind, data):
 
 cases = b''.join(case(name, b'APLX', plan_to_aplx(s)) + case(name, b'SROM', plan_to_srom(s)) for name, s in plans.items())
 cases += b''.join(case(name, b'plan', aplx_to_plan(s)) for name, s in images.items())
+
+
+# ---- the plans of comparison_cases
+
+TABLE, TOP = 0x400000, 2 ** 32
+
+
+def put(address, data, run=None):
+    """A plan of one put, and a run where one is given."""
+    return plan([(1, address, len(data), 0)] + ([] if run is None else [(3, run, 0, 0)]), data)
+
+
+def filled(*fills, run=None):
+    """A plan of fills (address, length and word), and a run where one is given."""
+    return plan([(2, *f) for f in fills] + ([] if run is None else [(3, run, 0, 0)]), b'')
+
+
+def longest(last, size=32768):
+    """A plan of a put of 32,736 bytes, the last one given, and zeros up to a size."""
+    return plan([(1, TABLE, 32736, 0)], long + bytes(15) + bytes([last]), size)
+
+
+def apart(count):
+    """Two plans whose comparison has so many stretches: every second byte differs."""
+    return filled((TABLE, 2 * count, 0)), filled((TABLE, 2 * count, 0x00090009))
+
+
+four = bytes([1, 2, 3, 4])
+five = put(TABLE, four + b'\x05')
+corrected = [(2, TABLE, 32, 0), (1, TABLE, 8, 0), (1, TABLE + 16, 8, 8)]
+refused = {
+    # data past the data length
+    2: plan([(2, TABLE, 4, 0), (1, TABLE, 4, 1)], bytes(4)),
+    # behind a run
+    3: plan([(3, 0, 0, 0), (2, TABLE + 2, 4, 0)], b''),
+    5: filled((TABLE, 4, 0), (TABLE, 0, 0)),
+    9: filled((TABLE, 4, 0), run=2),
+    11: plan([(3, 0, 0, 0), (4, 0, 0, 0)], b''),
+    # the first one reaches the last address, the second one goes past it
+    19: filled((TOP - 8, 8, 0), (TOP - 8, 9, 0)),
+}
+
+# the old and the new plan of each case, in the order in which they are compared; None is a file that is missing
+pairs = {
+    'equal': (coefficients, coefficients),
+    # puts of 5 bytes
+    'one_address': (five, put(TABLE, four + b'\x06')),
+    # different bytes, twice; then stored by the old plan only, twice; then by the new one only
+    'several_stretches': (filled((TABLE, 12, 0), (TABLE + 32, 4, 1)), filled((TABLE, 8, 0x00090900), (TABLE + 40, 6, 0x04030201))),
+    'most_stretches': apart(512),
+    'too_many_stretches': apart(513),
+    'correction_listed_last': (plan(corrected, bytes(range(1, 17))),
+                               plan(corrected + [(1, TABLE + 4, 4, 16)], bytes([*range(1, 17), 0x25, 0x26, 7, 0x28]))),
+    # another in bit 0 only
+    'other_run': (put(TABLE, four, run=0x100), put(TABLE, four, run=0x101)),
+    'no_run_against_a_run': (put(TABLE, four), put(TABLE, four, run=0x100)),
+    'neither_has_a_run': (put(TABLE, four), filled((TABLE, 4, 0x04030201))),
+    'missing_old': (None, five),
+    'missing_new': (five, None),
+    'both_missing': (None, None),
+    **{'old_refused_%d' % number: (s, five) for number, s in refused.items()},
+    **{'new_refused_%d' % number: (five, s) for number, s in refused.items()},
+    # 32,768 bytes, and a byte more
+    'longest': (longest(1), longest(2)),
+    'old_too_long': (longest(1, 32769), five),
+    'new_too_long': (five, longest(1, 32769)),
+    'old_too_long_new_refused': (longest(1, 32769), refused[9]),
+    'old_refused_new_too_long': (refused[9], longest(1, 32769)),
+    # up to the last address, whose byte is another
+    'top_of_the_address_space': (filled((TOP - 8, 8, 0)), filled((TOP - 65536, 65536, 0), (TOP - 4, 4, 0x09000000))),
+}
+comparisons = b''.join(name.encode() + b':\n' + b''.join(compare_plans(*pair)) + b'\n' for name, pair in pairs.items())
 
 
 # ---- the messages of flood_fill_cases: the kind, how many bytes of the image are lent, and three numbers
@@ -172,10 +248,16 @@ stored = {
     'plan_to_srom/stdout': plan_to_srom(coefficients),
     'aplx_to_plan/stdin': plan_to_aplx(coefficients),
     'aplx_to_plan/stdout': aplx_to_plan(plan_to_aplx(coefficients)),
+    'compare_plans/data/old': coefficients,
+    'compare_plans/data/new': recalibrated,
+    'compare_plans/stdout': compare_plans(coefficients, recalibrated)[0],
+    '../examples/compare.expected': compare_plans(coefficients, recalibrated)[0],
     'conversion_cases/stdout': cases,
+    'comparison_cases/stdout': comparisons,
 }
-files = {**plans, **images}
-stored.update(('conversion_cases/data/' + name, s) for name, s in files.items())
+stored.update(('conversion_cases/data/' + name, s) for name, s in {**plans, **images}.items())
+stored.update(('comparison_cases/data/%s_%s' % (name, which), s)
+              for name, pair in pairs.items() for which, s in zip(('old', 'new'), pair) if s is not None)
 
 different = 0
 for name, expected in stored.items():
@@ -189,8 +271,9 @@ for name, expected in stored.items():
             if f.read() != expected:
                 print('%s: not what the second program writes' % path)
                 different = 1
-for name in os.listdir(os.path.join(crates, 'conversion_cases', 'data')):
-    if name not in files:
-        print('%s: the second program does not write it' % name)
-        different = 1
+for folder in 'conversion_cases/data', 'compare_plans/data', 'comparison_cases/data':
+    for name in os.listdir(os.path.join(crates, folder)):
+        if folder + '/' + name not in stored:
+            print('%s/%s: the second program does not write it' % (folder, name))
+            different = 1
 sys.exit(different)

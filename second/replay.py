@@ -6,13 +6,15 @@ replay.py: fails where the stored file is another.
 
 The head of crates/replay/data/cases says how a call is written and what is written for it. `=` is the buffer of the same
 kind (table, memory, output, input) as the last call of the file left it. A flood-fill receiver is of the kind table, its image
-of the kind memory; a rom, a packet, a plan and an APLX image are of the kind input.
+of the kind memory; a rom, a packet, a plan and an APLX image are of the kind input. Of two plans that are compared the old one is of
+the kind memory.
 """
 import re
 import struct
 import sys
 import pathlib
 
+import comparison
 import model
 
 REPLAY = pathlib.Path(__file__).resolve().parent.parent / 'crates' / 'replay'
@@ -29,6 +31,7 @@ CALLS = {
     'pack_srom': ('input', 'output'),
     'pack_aplx': ('input', 'output'),
     'aplx_read': ('input', 'output'),
+    'compare': ('memory', 'input', 'output'),
     'map_sound': ('table', LONG),
     'lookup': ('table', 4, WORD, LONG),
     'run_entry': ('table', WORD),
@@ -47,6 +50,7 @@ CHANGED = {
     'pack_srom': ('output',),
     'pack_aplx': ('output',),
     'aplx_read': ('output',),
+    'compare': ('output',),
     'flood_fill_start': ('table',),
     'flood_fill_block_start': ('table',),
     'flood_fill_block_data': ('table',),
@@ -118,9 +122,9 @@ KIND = {'ARM': 1, 'Thumb': 2}
 
 
 def numbers(answer):
-    """The returned number and the eight numbers of the outcome, of a value that model.py answers."""
+    """The returned number and the eight numbers of the outcome, of a value that model.py or comparison.py answers."""
     outcome = {
-        'refused': lambda number, place, needed: dict(refusal=number, place=place, event=0, bytes=needed),
+        'refused': lambda number, place, needed, plan=0: dict(refusal=number, place=place, event=0, kind=plan, bytes=needed),
         'end': lambda place, taken, stored: dict(place=place, event=1, items=taken, bytes=stored),
         'unknown': lambda command, place, taken, stored: dict(place=place, event=2, address=command, items=taken, bytes=stored),
         'run': lambda kind, address, resume, taken, stored:
@@ -135,6 +139,8 @@ def numbers(answer):
         'ignored': lambda: dict(event=10),
         'missing': lambda count, lowest: dict(place=lowest, event=11, items=count),
         'done': lambda: dict(event=12),
+        'same run': lambda stretches: dict(event=13, items=len(stretches), bytes=16 * len(stretches)),
+        'other run': lambda stretches: dict(event=14, items=len(stretches), bytes=16 * len(stretches)),
     }[answer[0]](*answer[1:])
     eight = [outcome.get(name, 0) for name in ('refusal', 'place', 'event', 'kind', 'address', 'resume', 'items', 'bytes')]
     return [eight[0]] + eight
@@ -169,6 +175,10 @@ def pack_aplx(plan, output):
 
 def aplx_read(image, output):
     return numbers(model.aplx_read(image, output))
+
+
+def compare(old, new, output):
+    return numbers(comparison.compare(old, new, output))
 
 
 def map_sound(table, size):
@@ -234,6 +244,14 @@ def byte_string(text, kept):
     return out
 
 
+def written(name, buffer):
+    """The line of a buffer: its bytes. For compare the ones at the end that are all the same stand as one of them and their number."""
+    if name != 'compare' or not buffer:
+        return buffer.hex()
+    front = buffer.rstrip(buffer[-1:])
+    return '%s+%02x*%d' % (front.hex(), buffer[-1], len(buffer) - len(front))
+
+
 def call(line, kept):
     """The lines that are written for a call; kept has the buffers as the last call left them."""
     name, *words = line.split(' ')
@@ -247,7 +265,7 @@ def call(line, kept):
             kept[kind] = byte_string(word, kept.get(kind, b''))
             arguments.append(kept[kind])
     answer = globals()[name](*arguments)
-    return [name, ' '.join(map(str, answer))] + [kept[kind].hex() for kind in CHANGED.get(name, ())]
+    return [name, ' '.join(map(str, answer))] + [written(name, kept[kind]) for kind in CHANGED.get(name, ())]
 
 
 def replay(text):

@@ -1,0 +1,3 @@
+-- The comparison of two plans as text (paper 02, C-18).
+pub mod Lines
+pub mod Code
