@@ -1,13 +1,13 @@
 /* Reidhintsje for C, and for what calls C: link with target/staticlib/libreidhintsje.a, which `rt staticlib reidhintsje` makes.
  *
- * The archive is for x86-64 Linux, which is what the toolchain's compiler writes today: for the bench computer that packs plans, loads and
- * answers packets for an instrument, and not for the board's own cores.
+ * The archive is for x86-64 Linux, which is what the toolchain's compiler writes today: for the bench computer that packs and compares
+ * plans, loads and answers packets for an instrument, and not for the board's own cores.
  *
  * Every call is proved to stay inside the buffers that it is lent, to end, and to answer for any bytes and any numbers. The proof takes
  * for granted what a C caller must see to:
  *   - a buffer is a pointer and the length in bytes that it really has; the pointer is never NULL, not even where the length is 0;
  *   - `outcome` points to eight numbers, aligned as uint64_t is; `identity` to five, aligned as uint32_t is; `receiver` to 1544 bytes;
- *   - a buffer that a call may write (no const) overlaps no other buffer of that call.
+ *   - a buffer that a call may write (no const) overlaps no other buffer of that call. Buffers that it only reads may overlap.
  * Nothing is allocated, and nothing is kept between calls, so that calls on different buffers may run at the same time.
  *
  * Each call returns 0, or the number of the refusal (docs/REFUSALS.md says what to look at). A refused call leaves map, memory,
@@ -37,6 +37,8 @@ extern "C" {
 #define REIDHINTSJE_PLAN_MALFORMED 11u
 #define REIDHINTSJE_LENGTH_NOT_EXPRESSIBLE 12u
 #define REIDHINTSJE_SROM_TOO_LONG 13u
+#define REIDHINTSJE_TOO_MANY_STRETCHES 18u
+#define REIDHINTSJE_PAST_LAST_ADDRESS 19u
 #define REIDHINTSJE_NO_PIECE 20u
 #define REIDHINTSJE_TOO_MANY_PIECES 21u
 #define REIDHINTSJE_LENGTH_NOT_PACKABLE 22u
@@ -54,14 +56,16 @@ extern "C" {
 #define REIDHINTSJE_OUTCOME_NUMBERS 8
 #define REIDHINTSJE_REFUSAL 0 /* the number of the refusal, which the call returns too; 0 if there is none */
 #define REIDHINTSJE_PLACE 1   /* of a refusal, an end or an unknown command: an APLX entry's index, a serial ROM's offset, a piece's index;
-                                 of refusal 10 of a plan or an image, the count of its pieces; of MISSING, the lowest missing word ID */
+                                 of refusal 10 where an image is packed or read back, the count of its pieces; of refusal 18, how many
+                                 stretches there may be, 512; of MISSING, the lowest missing word ID */
 #define REIDHINTSJE_EVENT 2   /* what happened: one of the numbers below */
-#define REIDHINTSJE_KIND 3    /* of a run: 1 ARM, 2 Thumb; else 0 */
+#define REIDHINTSJE_KIND 3    /* of a run: 1 ARM, 2 Thumb; of a refused comparison: 1 the old plan, 2 the new plan, 0 neither; else 0 */
 #define REIDHINTSJE_ADDRESS 4 /* of a run, as written (bit 0 is set for Thumb); of UNKNOWN, the command word */
 #define REIDHINTSJE_RESUME 5  /* after a load that stopped at a run: the offset, or the header address, from which the next load goes on */
-#define REIDHINTSJE_ITEMS 6   /* entries or blocks taken before the stop; pieces of a plan that was read; of MISSING, how many words */
-#define REIDHINTSJE_BYTES 7   /* of a load: stored, each counted every time it was stored; of the response; of the image or plan that was
-                                 written; of refusal 10: the length that the output has to have */
+#define REIDHINTSJE_ITEMS 6   /* entries or blocks taken before the stop; pieces of a plan that was read; stretches that a comparison
+                                 listed; of MISSING, how many words */
+#define REIDHINTSJE_BYTES 7   /* of a load: stored, each counted every time it was stored; of the response; of the image, plan or stretches
+                                 that were written; of refusal 10: the length that the output has to have */
 
 #define REIDHINTSJE_REFUSED 0  /* nothing was changed */
 #define REIDHINTSJE_END 1      /* a load came to its end */
@@ -76,10 +80,18 @@ extern "C" {
 #define REIDHINTSJE_IGNORED 10 /* a flood-fill message changed nothing, and that is no error */
 #define REIDHINTSJE_MISSING 11 /* a Block End whose block lacks words: ITEMS says how many, PLACE the lowest; the block stays open */
 #define REIDHINTSJE_DONE 12    /* a Block End whose block is complete: its words stand in the image */
+#define REIDHINTSJE_SAME_RUN 13  /* two plans were compared: both run the same address, as written (bit 0 too), or neither has a run */
+#define REIDHINTSJE_OTHER_RUN 14 /* two plans were compared: they run two addresses, or only one of them has a run */
 
+/* KIND of a run */
 #define REIDHINTSJE_NO_KIND 0
 #define REIDHINTSJE_ARM 1
 #define REIDHINTSJE_THUMB 2
+
+/* KIND of a refused comparison: the plan that the refusal is about */
+#define REIDHINTSJE_NEITHER_PLAN 0
+#define REIDHINTSJE_OLD_PLAN 1
+#define REIDHINTSJE_NEW_PLAN 2
 
 /* ---- the map
  * A map is a table of 132 bytes that the caller keeps: the count of regions in 4 bytes, then eight regions of 16 bytes each, base, length,
@@ -153,6 +165,42 @@ uint32_t reidhintsje_pack_aplx(const uint8_t *plan, size_t plan_length, uint8_t 
  * where the data of an RCOPY does not lie in the slice. Last, 10 where the plan does not fit: PLACE is the count of its pieces, BYTES the
  * length that it has. */
 uint32_t reidhintsje_aplx_read(const uint8_t *image, size_t image_length, uint8_t *output, size_t output_length, uint64_t *outcome);
+
+/* ---- two plans compared: SAME_RUN or OTHER_RUN, with ITEMS and BYTES
+ * Compares what two plans leave at each byte address. Of each plan the pieces from index 0 through its first run count, or to its end where
+ * it has none; those behind the run are tested, but not compared. The addresses are listed which only one plan stores, and those which both
+ * store and leave with different last bytes; no others. It makes no difference by how many pieces, of what kind and in what order a plan
+ * leaves its bytes. Images are compared as the plans that reidhintsje_aplx_read reads back.
+ *
+ * The addresses are listed as stretches, at the output's front, 16 bytes each:
+ *      0   4 bytes     the first address
+ *      4   4 bytes     the last address
+ *      8   4 bytes     the byte that the old plan leaves at the first address; 256 where it does not store it
+ *     12   4 bytes     the byte that the new plan leaves there; 256 where it does not store it
+ * Stretches ascend, and each is as long as possible: between two of them lies at least one address that is not listed. At the other
+ * addresses of a stretch other bytes may stand, or none. ITEMS is the number of stretches, BYTES 16 x ITEMS. The output past them is left
+ * as it was.
+ *
+ * The output has to have 8192 bytes, room for 512 stretches, whatever the plans. Refusals, in this order:
+ *   - 10 where the output has fewer bytes, before all else; PLACE is 0, BYTES 8192;
+ *   - the old plan's: those of reidhintsje_plan_read with REIDHINTSJE_TARGET_ANY (2, 3, 5, 9, 11; 12 is not tested), and as the last test of
+ *     each piece 19 for a put or fill that ends past address 4294967295; PLACE is the piece's index, or 0 for the header;
+ *   - the new plan's, likewise;
+ *   - 18 where there are more than 512 stretches; PLACE is 512.
+ * KIND says which plan is refused; 10 and 18 name neither.
+ */
+#define REIDHINTSJE_STRETCH_BYTES 16
+#define REIDHINTSJE_MOST_STRETCHES 512
+#define REIDHINTSJE_COMPARE_OUTPUT_BYTES 8192
+#define REIDHINTSJE_NOT_STORED 256u
+
+/* A stretch as it stands in the output, on a Little Endian machine as this one: an array of 512 of them can be lent as output. */
+typedef struct {
+    uint32_t first, last, old_byte, new_byte;
+} reidhintsje_stretch;
+
+uint32_t reidhintsje_compare(const uint8_t *old_plan, size_t old_length, const uint8_t *new_plan, size_t new_length, uint8_t *output,
+                             size_t output_length, uint64_t *outcome);
 
 /* ---- flood fill: ACCEPTED, IGNORED, MISSING or DONE
  * An image is passed along in blocks of words, by four messages, each a call. Messages come taken apart; those with a bad checksum are

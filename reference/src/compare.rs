@@ -1,6 +1,7 @@
 //! One input given to a library and to this second implementation: every number and every byte must be the same.
 //! Each buffer that the library is lent lies between guard bytes that must stay as they were.
 
+use crate::compare_difference::compare_plans;
 use crate::compare_flood::{compare_flood, describe_flood};
 use crate::compare_read_back::{compare_old_image, compare_read};
 use crate::compare_series::{compare_series, Loads};
@@ -140,6 +141,9 @@ pub fn compare(
         Case::OldImage { image, table, memory, old, new, steps } => {
             return compare_old_image(library, image, table, memory, [*old, *new], steps, random, tally);
         }
+        Case::Compare { old, new, output } => {
+            return compare_plans(library, old, new, output, random, tally);
+        }
         Case::FloodFill(flood) => return compare_flood(flood, library, random, tally),
     }
     Ok(1)
@@ -215,6 +219,9 @@ pub fn describe(case: &Case) -> String {
                 shown(memory),
                 steps_text(steps)
             )
+        }
+        Case::Compare { old, new, output } => {
+            format!("compare\n  old {}\n  new {}\n  output of {} bytes\n", shown(old), shown(new), output.len())
         }
         Case::FloodFill(flood) => describe_flood(flood),
     }

@@ -40,7 +40,7 @@ pub fn compare_read(
 }
 
 /// The numbers of an image read back, and the output that the library left; an error where it differs from the reference's.
-fn read_on_both(
+pub fn read_on_both(
     library: &dyn Library,
     image: &[u8],
     output: &[u8],

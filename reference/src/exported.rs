@@ -118,6 +118,21 @@ pub unsafe extern "C" fn reidhintsje_aplx_read(
 }
 
 #[no_mangle]
+pub unsafe extern "C" fn reidhintsje_compare(
+    old_plan: *const u8, old_length: usize,
+    new_plan: *const u8, new_length: usize,
+    output: *mut u8, output_length: usize,
+    outcome: *mut Outcome,
+) -> u32 {
+    Reference.compare(
+        from_raw_parts(old_plan, old_length),
+        from_raw_parts(new_plan, new_length),
+        from_raw_parts_mut(output, output_length),
+        &mut *outcome,
+    )
+}
+
+#[no_mangle]
 pub unsafe extern "C" fn reidhintsje_flood_fill_start(
     receiver: *mut ReceiverBytes,
     image: *const u8, image_length: usize,

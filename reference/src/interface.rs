@@ -8,6 +8,7 @@ use crate::map::{Map, Region, Rights, MOST_REGIONS};
 use crate::outcome::{Answer, Entry, Loaded, Refusal, Stop};
 use crate::pack;
 use crate::plan;
+use crate::plan_difference::{self, Compared, Side, SideRefusal};
 use crate::read_back;
 use crate::receiver::{receiver_of, write_receiver, ReceiverBytes, DONE};
 use crate::scp::{self, Identity, Reply};
@@ -48,6 +49,7 @@ pub trait Library {
     fn pack_srom(&self, plan: &[u8], output: &mut [u8], outcome: &mut Outcome) -> u32;
     fn pack_aplx(&self, plan: &[u8], output: &mut [u8], outcome: &mut Outcome) -> u32;
     fn aplx_read(&self, image: &[u8], output: &mut [u8], outcome: &mut Outcome) -> u32;
+    fn compare(&self, old: &[u8], new: &[u8], output: &mut [u8], outcome: &mut Outcome) -> u32;
     fn flood_fill_start(
         &self,
         receiver: &mut ReceiverBytes,
@@ -138,6 +140,8 @@ pub mod event {
     pub const IGNORED: u64 = 10;
     pub const MISSING: u64 = 11;
     pub const DONE: u64 = 12;
+    pub const SAME_RUN: u64 = 13;
+    pub const OTHER_RUN: u64 = 14;
 }
 
 /// Where each number stands in the outcome, by the header.
@@ -251,6 +255,26 @@ fn pack_numbers(size: Result<u64, Refusal>, needed: impl FnOnce() -> u64) -> Out
         Ok(size) => packed_numbers(size),
         Err(refusal) if refusal.number == 10 => output_refusal(refusal, needed()),
         Err(refusal) => refusal_numbers(refusal),
+    }
+}
+
+/// The outcome numbers of two plans that were compared, or refused.
+fn difference_numbers(answer: Result<Compared, SideRefusal>) -> Outcome {
+    match answer {
+        Ok(Compared { stretches, same_run }) => {
+            let event = if same_run { event::SAME_RUN } else { event::OTHER_RUN };
+            let bytes = plan_difference::STRETCH as u64 * stretches;
+            outcome_of(event, &[(at::ITEMS, stretches), (at::BYTES, bytes)])
+        }
+        Err(SideRefusal { refusal, side }) => {
+            let mut numbers = output_refusal(refusal, plan_difference::NEEDED as u64);
+            numbers[at::KIND] = match side {
+                Side::Neither => 0,
+                Side::Old => 1,
+                Side::New => 2,
+            };
+            numbers
+        }
     }
 }
 
@@ -391,6 +415,10 @@ impl Library for Reference {
     fn aplx_read(&self, image: &[u8], output: &mut [u8], outcome: &mut Outcome) -> u32 {
         let needed = || read_back::pieces(image).map_or(0, |pieces| read_back::plan_length(&pieces));
         give(outcome, pack_numbers(read_back::read_back(image, output), needed))
+    }
+
+    fn compare(&self, old: &[u8], new: &[u8], output: &mut [u8], outcome: &mut Outcome) -> u32 {
+        give(outcome, difference_numbers(plan_difference::compare(old, new, output)))
     }
 
     fn flood_fill_start(

@@ -50,6 +50,12 @@ extern "C" {
         output: *mut u8, output_length: usize,
         outcome: *mut u64,
     ) -> u32;
+    fn reidhintsje_compare(
+        old_plan: *const u8, old_length: usize,
+        new_plan: *const u8, new_length: usize,
+        output: *mut u8, output_length: usize,
+        outcome: *mut u64,
+    ) -> u32;
     fn reidhintsje_flood_fill_start(
         receiver: *mut u8,
         image: *const u8, image_length: usize,
@@ -166,6 +172,17 @@ impl Library for Linked {
         unsafe {
             reidhintsje_aplx_read(
                 image.as_ptr(), image.len(),
+                output.as_mut_ptr(), output.len(),
+                outcome.as_mut_ptr(),
+            )
+        }
+    }
+
+    fn compare(&self, old: &[u8], new: &[u8], output: &mut [u8], outcome: &mut Outcome) -> u32 {
+        unsafe {
+            reidhintsje_compare(
+                old.as_ptr(), old.len(),
+                new.as_ptr(), new.len(),
                 output.as_mut_ptr(), output.len(),
                 outcome.as_mut_ptr(),
             )

@@ -67,6 +67,15 @@ impl Piece {
 
 /// The pieces of a plan. A put or fill has a length that is a multiple of the unit (else 12).
 pub fn read(plan: &[u8], unit: u32) -> Result<Vec<Piece>, Refusal> {
+    read_tested(plan, unit, |_| Ok(()))
+}
+
+/// The same with one more test, the last one of each piece; its error is a refusal number.
+pub fn read_tested(
+    plan: &[u8],
+    unit: u32,
+    last: impl Fn(&Piece) -> Result<(), u32>,
+) -> Result<Vec<Piece>, Refusal> {
     let size = plan.len() as u64;
     if plan.len() < HEADER {
         return refuse(2, 0);
@@ -85,7 +94,8 @@ pub fn read(plan: &[u8], unit: u32) -> Result<Vec<Piece>, Refusal> {
         .map(|index| {
             let at = (u64::from(table) + PIECE * index) as usize;
             let words = [0, 4, 8, 12].map(|k| le32(plan, at + k));
-            piece(words, data, data_length, unit).or_else(|number| refuse(number, index))
+            let read = piece(words, data, data_length, unit).and_then(|piece| last(&piece).map(|()| piece));
+            read.or_else(|number| refuse(number, index))
         })
         .collect()
 }

@@ -8,7 +8,7 @@ use reference::bytes::hex;
 use reference::interface::{map_of, Library, Outcome, Reference};
 use reference::map::{Map, Right};
 use reference::outcome::Entry;
-use reference::text::{read_call, Buffers};
+use reference::text::{read_call, shortened, Buffers};
 
 /// The longest range that a map can be asked for, so that no sum of an address and a length wraps.
 const WHOLE: u64 = 1 << 32;
@@ -52,6 +52,7 @@ fn call<'a>(name: &str, n: &[u64], buffers: &'a mut Buffers) -> Option<(Vec<u64>
         "pack_srom" => (Reference.pack_srom(input, output, &mut outcome), vec![output]),
         "pack_aplx" => (Reference.pack_aplx(input, output, &mut outcome), vec![output]),
         "aplx_read" => (Reference.aplx_read(input, output, &mut outcome), vec![output]),
+        "compare" => (Reference.compare(memory, input, output, &mut outcome), vec![output]),
         "flood_fill_start" => {
             let receiver = table.as_mut_slice().try_into().ok()?;
             let number = Reference.flood_fill_start(receiver, memory, n[0] as u32, n[1] as u32, &mut outcome);
@@ -113,7 +114,8 @@ fn replay(text: &str) -> (String, bool) {
         let numbers: Vec<String> = numbers.iter().map(u64::to_string).collect();
         written += &format!("{name}\n{}\n", numbers.join(" "));
         for buffer in changed {
-            written += &format!("{}\n", hex(buffer));
+            let text = if name == "compare" { shortened(buffer) } else { hex(buffer) };
+            written += &format!("{text}\n");
         }
     }
     (written, true)

@@ -3,6 +3,7 @@
 use std::collections::BTreeMap;
 
 use crate::bytes::{le16, le32, share};
+use crate::difference_kinds;
 use crate::flood_fill::{Message, Receiver};
 use crate::interface::{at, event, map_of, Numbers, Outcome, TABLE};
 use crate::plan::Piece;
@@ -242,7 +243,8 @@ fn refused(number: u64) -> String {
 
 /// Everything that can occur in a call.
 pub fn required() -> Vec<(&'static str, String)> {
-    let mut all: Vec<(&'static str, String)> = Vec::new();
+    let mut all: Vec<(&'static str, String)> =
+        difference_kinds::required().into_iter().map(|what| ("compare", what)).collect();
     let mut numbers = |call, list: &[u64]| {
         all.extend(list.iter().map(|number| (call, number_kind(*number))));
     };

@@ -36,6 +36,7 @@ fn kinds(name: &str) -> Option<&'static [Kind]> {
         "scp_answer" => &[Table, Memory, WORD, WORD, WORD, WORD, WORD, Input, Output],
         "plan_read" => &[Input, WORD],
         "pack_srom" | "pack_aplx" | "aplx_read" => &[Input, Output],
+        "compare" => &[Memory, Input, Output],
         "map_sound" => &[Table, LONG],
         "lookup" => &[Table, Number(4), WORD, LONG],
         "run_entry" => &[Table, WORD],
@@ -47,7 +48,7 @@ fn kinds(name: &str) -> Option<&'static [Kind]> {
 }
 
 /// The buffers as the last call left them. A rom, a packet, a plan and an image that is read back are inputs; a receiver is a
-/// table, and an image that is received a memory.
+/// table; an image that is received, and the old one of two plans that are compared, are memories.
 #[derive(Default)]
 pub struct Buffers {
     pub table: Vec<u8>,
@@ -114,6 +115,13 @@ fn read_pairs(digits: &str) -> Option<Vec<u8>> {
         _ => None,
     };
     digits.as_bytes().chunks(2).map(pair).collect()
+}
+
+/// A buffer as it is written for `compare`: the equal bytes at its end as one of them and their number.
+pub fn shortened(bytes: &[u8]) -> String {
+    let Some(last) = bytes.last() else { return String::new() };
+    let front = bytes.iter().rposition(|byte| byte != last).map_or(0, |at| at + 1);
+    format!("{}+{last:02x}*{}", hex(&bytes[..front]), bytes.len() - front)
 }
 
 /// The text of a byte string.

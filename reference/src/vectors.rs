@@ -7,6 +7,7 @@ use std::process::exit;
 
 use reference::bytes::unhex;
 use reference::compare_flood::call;
+use reference::difference_kinds;
 use reference::flood_fill::Message;
 use reference::generate::{case_of, Call, Case, Flood, Sent, Size};
 use reference::interface::{table_of, Library, Outcome, Reference};
@@ -19,6 +20,7 @@ use reference::tally::{
 };
 use reference::text::write_bytes;
 
+mod difference_vectors;
 mod flood_vectors;
 mod read_back_vectors;
 
@@ -34,7 +36,8 @@ const ALIKE: u64 = 7;
 /// Random inputs that are drawn for each call.
 const DRAWN: usize = 20_000;
 
-/// What can't occur with so small a memory or slice, or is not a thing of single calls.
+/// What can't occur with so small a memory or slice, or is not a thing of single calls. 512 stretches are left to the cases: their
+/// output is long.
 fn beyond(call: &str, what: &str) -> bool {
     call.starts_with("series")
         || call == "flood_fill"
@@ -43,6 +46,9 @@ fn beyond(call: &str, what: &str) -> bool {
         || what.starts_with("identity")
         || (call == "map_sound" && (what == "accepted" || what.starts_with("refused")))
         || (call == "aplx_read" && (what == "a put of 65536 bytes" || what == "packed to the same bytes"))
+        || (call == "compare"
+            && ["511 stretches", "512 stretches", "64 pieces", "output of more bytes", "with its image read back"]
+                .contains(&what))
         || (call == "srom_load" && what == "refused 13")
         || (call == "aplx_load" && what == "refused  7")
 }
@@ -213,6 +219,16 @@ impl Vectors {
                     self.write(record);
                 }
             }
+            Case::Compare { old, new, output } => {
+                Reference.compare(old, new, &mut output.clone(), &mut outcome);
+                let mut wanted = always;
+                for kind in difference_kinds::kinds(&outcome, old, new, output.len()) {
+                    wanted |= self.wants("compare", kind);
+                }
+                if wanted {
+                    self.write(Record::new("compare").slice(old).slice(new).slice(output));
+                }
+            }
             Case::Series { .. } | Case::OldImage { .. } | Case::FloodFill(_) => {}
         }
     }
@@ -355,6 +371,9 @@ fn main() {
         vectors.add_flood(&flood);
     }
     for case in read_back_vectors::all(&mut random) {
+        vectors.add(&case, true);
+    }
+    for case in difference_vectors::all(&mut random) {
         vectors.add(&case, true);
     }
     let mut missing = vectors.tally.missing(&required());

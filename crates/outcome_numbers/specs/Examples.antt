@@ -1,5 +1,6 @@
 -- Computed examples of outcomes as numbers: refusal, place, event, kind, address, resume, items, bytes.
 use mathlib.Core.Path.{_≡_, refl}
+use mathlib.Core.Bool.{true, false}
 use mathlib.Core.List.{[], _∷_}
 use Rattle.outcome.specs.Outcome as load
 use Rattle.outcome.specs.Outcome.{arm, thumb, end, unknown, run}
@@ -7,7 +8,9 @@ use Rattle.plan.specs.Code as read
 use Rattle.plan.specs.Packed as packed
 use Rattle.scp.specs.Answer as scp
 use Rattle.flood_fill.specs.Answer as flood
-use Rattle.outcome_numbers.specs.Numbers.{loadNumbers, readNumbers, packNumbers, replyNumbers, messageNumbers}
+use Rattle.compare.specs.Code as compare
+use Rattle.compare.specs.Compare.{neither, oldPlan, newPlan}
+use Rattle.outcome_numbers.specs.Numbers.{loadNumbers, readNumbers, packNumbers, replyNumbers, messageNumbers, comparedNumbers}
 
 record Loads : Type 0 where
   pub refusal : loadNumbers (load.refused 4 7) ≡ 4 ∷ 7 ∷ 0 ∷ 0 ∷ 0 ∷ 0 ∷ 0 ∷ 0 ∷ []
@@ -50,3 +53,14 @@ record Messages : Type 0 where
 
 messages : Messages
 messages = record { too-short = refl; kept = refl; not-kept = refl; lacks = refl; complete = refl }
+
+record Comparisons : Type 0 where
+  pub no-room : comparedNumbers 0 (compare.refusal neither 10 0) ≡ 10 ∷ 0 ∷ 0 ∷ 0 ∷ 0 ∷ 0 ∷ 0 ∷ 8192 ∷ []
+  pub too-many : comparedNumbers 0 (compare.refusal neither 18 512) ≡ 18 ∷ 512 ∷ 0 ∷ 0 ∷ 0 ∷ 0 ∷ 0 ∷ 0 ∷ []
+  pub old-refused : comparedNumbers 0 (compare.refusal oldPlan 19 3) ≡ 19 ∷ 3 ∷ 0 ∷ 1 ∷ 0 ∷ 0 ∷ 0 ∷ 0 ∷ []
+  pub new-refused : comparedNumbers 0 (compare.refusal newPlan 2 0) ≡ 2 ∷ 0 ∷ 0 ∷ 2 ∷ 0 ∷ 0 ∷ 0 ∷ 0 ∷ []
+  pub same-run : comparedNumbers 48 (compare.found 3 true) ≡ 0 ∷ 0 ∷ 13 ∷ 0 ∷ 0 ∷ 0 ∷ 3 ∷ 48 ∷ []
+  pub other-run : comparedNumbers 0 (compare.found 0 false) ≡ 0 ∷ 0 ∷ 14 ∷ 0 ∷ 0 ∷ 0 ∷ 0 ∷ 0 ∷ []
+
+comparisons : Comparisons
+comparisons = record { no-room = refl; too-many = refl; old-refused = refl; new-refused = refl; same-run = refl; other-run = refl }

@@ -1,8 +1,9 @@
 -- Outcomes as eight numbers, for a caller that takes no enum: one layout for every call. What a case does not name is 0.
 pub mod Laws
 pub mod Injective
+use mathlib.Core.Bool.{Bool, true, false}
 use mathlib.Core.List.{List, [], _∷_}
-use Prim.Native.Nat.{ℕ}
+use Prim.Native.Nat.{ℕ, _*_}
 use lib.Dec.{eqb}
 use lib.ListN.{getD}
 use Rattle.words.specs.Choice.{if_then_else_}
@@ -12,6 +13,8 @@ use Rattle.plan.specs.Code as read
 use Rattle.plan.specs.Packed as packed
 use Rattle.scp.specs.Answer as scp
 use Rattle.flood_fill.specs.Answer as flood
+use Rattle.compare.specs.Code as compare
+use Rattle.compare.specs.Compare.{Which, neither, oldPlan, newPlan, mostStretches, stretchSize}
 use Rattle.outcome_numbers.specs.declared.numbers.Parts.{Parts}
 
 -- ---- the layout
@@ -74,6 +77,14 @@ MISSING = 11
 -- a block is complete
 abbrev pub DONE : ℕ
 DONE = 12
+
+-- two plans were compared, and their runs are the same
+abbrev pub SAME-RUN : ℕ
+SAME-RUN = 13
+
+-- two plans were compared, and their runs are not the same
+abbrev pub OTHER-RUN : ℕ
+OTHER-RUN = 14
 
 -- the kind of a run: 0 where there is none, 1 ARM, 2 Thumb
 abbrev pub kindNumber : Kind → ℕ
@@ -147,3 +158,31 @@ messageParts flood.done = countParts DONE 0 0
 
 abbrev pub messageNumbers : flood.Answer → List ℕ
 messageNumbers x = numbers (messageParts x)
+
+-- ---- plans compared: the number of stretches, whose bytes are b in all; of a refusal the plan that it is about: 0 neither, 1 the old one,
+-- 2 the new one. The output has to hold 512 stretches
+abbrev pub whichNumber : Which → ℕ
+whichNumber neither = 0
+whichNumber oldPlan = 1
+whichNumber newPlan = 2
+
+abbrev pub runEvent : Bool → ℕ
+runEvent true = SAME-RUN
+runEvent false = OTHER-RUN
+
+abbrev pub comparedParts : ℕ → compare.Outcome → Parts
+comparedParts b (compare.refusal w n p) =
+    record {
+      refusal = n;
+      place = p;
+      event = REFUSED;
+      kind = whichNumber w;
+      address = 0;
+      resume = 0;
+      items = 0;
+      bytes = needed n (stretchSize * mostStretches);
+    }
+comparedParts b (compare.found k same) = countParts (runEvent same) k b
+
+abbrev pub comparedNumbers : ℕ → compare.Outcome → List ℕ
+comparedNumbers b x = numbers (comparedParts b x)

@@ -14,7 +14,7 @@ use outcome::answer::Stop;
 use scp::answer::Reply;
 
 // Events: what happened.
-const REFUSED: u64 = 0;
+pub(crate) const REFUSED: u64 = 0;
 
 const END: u64 = 1;
 
@@ -95,7 +95,7 @@ fn refused(refusal: Refusal, bytes: u64) -> Parts
 }
 
 // The bytes that a refusal tells of an output that had to hold so many.
-fn needed(number: u32, bytes: u64) -> u64
+pub(crate) fn needed(number: u32, bytes: u64) -> u64
     ensures { λ r. ⌜ r ≡ needed number bytes ⌝ }
 {
     if number == OUTPUT_TOO_SMALL { bytes } else { 0 }
@@ -128,7 +128,7 @@ fn run(event: u64, entry: Entry, resume: u32, items: u64, bytes: u64) -> Parts
     }
 }
 
-fn count(event: u64, items: u64, bytes: u64) -> Parts
+pub(crate) fn count(event: u64, items: u64, bytes: u64) -> Parts
     ensures { λ r. ⌜ r ≡ countParts event items bytes ⌝ }
 {
     Parts {

@@ -1,8 +1,9 @@
 -- What each call of the library gives: the definitions of the loaders, the answerer, the readers, the packers and the flood-fill receiver,
 -- with the map of a table and with numbers for what is no number.
 pub mod Laws
+pub mod Comparison
 use mathlib.Core.Bool.{Bool, true, false}
-use mathlib.Core.List.{List}
+use mathlib.Core.List.{List, []}
 use Prim.Native.Nat.{ℕ, _%_}
 use lib.Dec.{eqb}
 use lib.ListN.{length, getD}
@@ -21,10 +22,13 @@ use Rattle.srom_pack.specs.Image.{sromImage, packSrom}
 use Rattle.aplx_pack.specs.Image.{aplxImage, packAplx}
 use Rattle.aplx_read.specs.PlanBytes.{planBytes}
 use Rattle.aplx_read.specs.ReadBack.{readImage, readBack}
+use Rattle.compare.specs.Code as comparison
+use Rattle.compare.specs.Compare as compare
+use Rattle.compare.specs.Compare.{Compared, refuses, finds, stretchBytes, compared}
 use Rattle.map_table.specs.Table.{mapOf}
 use Rattle.flood_fill.specs.declared.message.Message.{Message}
 use Rattle.receiver_bytes.specs.Receiver.{Left, receiveBytes}
-use Rattle.outcome_numbers.specs.Numbers.{loadNumbers, replyNumbers, readNumbers, packNumbers, messageNumbers}
+use Rattle.outcome_numbers.specs.Numbers.{loadNumbers, replyNumbers, readNumbers, packNumbers, messageNumbers, comparedNumbers}
 
 -- ---- the map
 -- an addition: 0 where it is taken, else the refusal's number
@@ -109,6 +113,19 @@ aplxPackCall plan output = packing aplxImage (readPlan 32 plan) (packAplx plan (
 -- an image read back: the plan is what is written
 abbrev pub aplxReadCall : List ℕ → List ℕ → Packing
 aplxReadCall image output = packing planBytes (readImage image) (readBack image (length output)) output
+
+-- ---- plans compared
+-- the bytes of the stretches that were found
+abbrev pub foundBytes : Compared → List ℕ
+foundBytes (refuses w n p) = []
+foundBytes (finds l same) = stretchBytes l
+
+abbrev pub comparing : Compared → List ℕ → Packing
+comparing c output =
+    record { numbers = comparedNumbers (length (foundBytes c)) (comparison.outcomeOf c); output = compare.outputAfter c output }
+
+abbrev pub compareCall : List ℕ → List ℕ → List ℕ → Packing
+compareCall old new output = comparing (compared (length output) old new) output
 
 -- ---- flood fill: the numbers of the outcome, and the receiver and the image afterwards
 pub record Receiving : Type 0 where

@@ -1,5 +1,6 @@
 -- Computed examples of the calls.
 use mathlib.Core.Path.{_≡_, refl}
+use mathlib.Core.Bool.{true}
 use mathlib.Core.List.{List, [], _∷_, _++_}
 use Prim.Native.Nat.{ℕ}
 use lib.ListN.{take, replicate}
@@ -8,9 +9,12 @@ use Rattle.words.specs.Store.{store}
 use Rattle.srom_pack.specs.Open as srom-group
 use Rattle.aplx_pack.specs.Open as aplx-group
 use Rattle.aplx_read.specs.Open as read-group
+use Rattle.plan.specs.Open as plan-group
+use Rattle.compare.specs.Reading.{comparedAt, comparedPieces, readCompared}
+use Rattle.compare.specs.Compare.{finds, stretchBytes, comparedBelow, compared}
 use Rattle.map_table.specs.Table.{addition, tableAfter}
 use Rattle.map_table.specs.Open as table-group
-use Rattle.reidhintsje.specs.Calls.{verdictNumber, soundCall, identityOf, unitAt, sromPackCall, aplxPackCall, aplxReadCall}
+use Rattle.reidhintsje.specs.Calls.{verdictNumber, soundCall, identityOf, unitAt, sromPackCall, aplxPackCall, aplxReadCall, comparing, compareCall}
 
 -- ---- maps: the empty one, and one region of 256 bytes
 zeros : List ℕ
@@ -73,3 +77,15 @@ record ReadBacks : Type 0 where
 read-backs : ReadBacks
 unfolding fill-plan fill-image read-group.reader store
 read-backs = record { less = refl; whole = refl; no-end = refl }
+
+-- two plans compared: an output a byte too small, no bytes as the old plan and as the new one, and one stretch that was found
+record Comparisons : Type 0 where
+  pub less : compareCall [] [] (replicate 8191 9) ≡ record { numbers = 10 ∷ 0 ∷ 0 ∷ 0 ∷ 0 ∷ 0 ∷ 0 ∷ 8192 ∷ []; output = replicate 8191 9 }
+  pub no-old : compareCall [] [] (replicate 8192 9) ≡ record { numbers = 2 ∷ 0 ∷ 0 ∷ 1 ∷ 0 ∷ 0 ∷ 0 ∷ 0 ∷ []; output = replicate 8192 9 }
+  pub no-new : compareCall fill-plan [] (replicate 8192 9) .numbers ≡ 2 ∷ 0 ∷ 0 ∷ 2 ∷ 0 ∷ 0 ∷ 0 ∷ 0 ∷ []
+  pub found : comparing (finds (record { first = 16; last = 19; old = 256; new = 7 } ∷ []) true) (replicate 17 9)
+      ≡ record { numbers = 0 ∷ 0 ∷ 13 ∷ 0 ∷ 0 ∷ 0 ∷ 1 ∷ 16 ∷ []; output = fourBytes 16 19 256 7 ++ 9 ∷ [] }
+
+comparisons : Comparisons
+unfolding fill-plan plan-group.reader comparedAt comparedPieces readCompared comparedBelow stretchBytes compared store
+comparisons = record { less = refl; no-old = refl; no-new = refl; found = refl }

@@ -2,5 +2,6 @@
 pub mod table; // the calls of a map
 pub mod load; // the two loaders
 pub mod plans; // the reader of plans, the packers, and the reader of images
+pub mod comparison; // two plans compared
 pub mod packet; // the answerer
 pub mod message; // the messages of a flood fill

@@ -101,3 +101,10 @@ pub(crate) fn aplx_read(image: &[u8], out: &mut [u8]) {
     output::numbers(answer, outcome);
     output::bytes(out);
 }
+
+pub(crate) fn compare(old: &[u8], new: &[u8], out: &mut [u8]) {
+    let mut outcome = [0u64; 8];
+    let answer = reidhintsje::comparison::reidhintsje_compare(old, new, out, &mut outcome);
+    output::numbers(answer, outcome);
+    output::shortened(out);
+}

@@ -35,7 +35,8 @@ fn made(
         12 => flood_fill::block_start(numbers, table, memory),
         13 => flood_fill::block_data(numbers, table, memory),
         14 => flood_fill::block_end(numbers, table, memory),
-        _ => library::aplx_read(input, out),
+        15 => library::aplx_read(input, out),
+        _ => library::compare(memory, input, out),
     }
 }
 

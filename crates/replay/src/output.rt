@@ -1,4 +1,5 @@
 // Text, numbers and bytes on standard output.
+ghost use Rattle.io.specs.Counts.{Counts};
 use libc::STDOUT_FILENO;
 
 pub(crate) fn text(t: &[u8]) {
@@ -15,14 +16,51 @@ fn digit(n: u8) -> u8 {
     if low < 10 { 48 + low } else { 87 + low }
 }
 
-// Bytes in hex, on one line.
-pub(crate) fn bytes(s: &[u8]) {
+// A byte in hex.
+fn pair(b: u8) {
+    let digits = [digit(b / 16), digit(b)];
+    text(&digits);
+}
+
+// Bytes in hex.
+fn pairs(s: &[u8]) {
     let mut i: usize = 0;
     while i < s.len() {
-        let b = s[i];
-        let pair = [digit(b / 16), digit(b)];
-        text(&pair);
+        pair(s[i]);
         i += 1;
+    }
+}
+
+// Bytes in hex, on one line.
+pub(crate) fn bytes(s: &[u8]) {
+    pairs(s);
+    text(b"\n");
+}
+
+// The least place from which on all bytes are the given one.
+fn row_from(s: &[u8], b: u8) -> usize
+    ensures { λ r. ⌜ Counts r (now (s .entry)) ⌝ }
+{
+    let mut at = s.len();
+    while at > 0 {
+        if s[at - 1] != b {
+            return at;
+        }
+        at -= 1;
+    }
+    at
+}
+
+// Bytes in hex, on one line; those at the end that are all the same stand as one of them and their number.
+pub(crate) fn shortened(s: &[u8]) {
+    if s.len() > 0 {
+        let last = s[s.len() - 1];
+        let at = row_from(s, last);
+        pairs(&s[..at]);
+        text(b"+");
+        pair(last);
+        text(b"*");
+        number((s.len() - at) as u64);
     }
     text(b"\n");
 }

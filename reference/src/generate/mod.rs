@@ -1,15 +1,19 @@
 //! Random inputs of every call: valid ones, near-valid ones with one thing wrong, damaged ones, and random bytes.
 
+mod changes;
 mod flood_damage;
 mod floods;
 mod images;
 mod maps;
 mod old_images;
 mod packets;
+mod pairs;
+mod parts;
 mod pictures;
 mod plans;
 mod receivers;
 mod roms;
+mod rows;
 mod slices;
 mod stretches;
 
@@ -34,6 +38,7 @@ pub enum Case {
     PackAplx { plan: Vec<u8>, output: Vec<u8> },
     /// `packed`: the image is just what the packer writes of a plan.
     AplxRead { image: Vec<u8>, output: Vec<u8>, packed: bool },
+    Compare { old: Vec<u8>, new: Vec<u8>, output: Vec<u8> },
     Series { plan: Vec<u8>, table: Vec<u8>, memory: Vec<u8>, medium: Medium, steps: Vec<Step> },
     /// An image in memory at `old`, and the packed image of the plan that is read from it at `new`.
     OldImage { image: Vec<u8>, table: Vec<u8>, memory: Vec<u8>, old: u32, new: u32, steps: Vec<Step> },
@@ -60,6 +65,7 @@ pub enum Call {
     PackSrom,
     PackAplx,
     AplxRead,
+    Compare,
     Series,
     OldImage,
     FloodFill,
@@ -77,6 +83,7 @@ pub fn case_of(call: Call, random: &mut Random, size: Size) -> Case {
         Call::PackSrom => plans::pack_srom(random, size),
         Call::PackAplx => plans::pack_aplx(random, size),
         Call::AplxRead => slices::read(random, size),
+        Call::Compare => pairs::compare(random, size),
         Call::Series => stretches::series(random),
         Call::OldImage => old_images::old_image(random),
         Call::FloodFill => Case::FloodFill(floods::flood(random, size)),
@@ -85,7 +92,7 @@ pub fn case_of(call: Call, random: &mut Random, size: Size) -> Case {
 
 /// An input of any call.
 pub fn case(random: &mut Random) -> Case {
-    let call = match random.below(118) {
+    let call = match random.below(128) {
         0..=8 => Call::MapAdd,
         9..=12 => Call::MapSound,
         13..=27 => Call::SromLoad,
@@ -97,6 +104,7 @@ pub fn case(random: &mut Random) -> Case {
         94..=99 => Call::Series,
         100..=105 => Call::FloodFill,
         106..=114 => Call::AplxRead,
+        115..=124 => Call::Compare,
         _ => Call::OldImage,
     };
     case_of(call, random, Size::Free)

@@ -138,7 +138,7 @@ fn draft(random: &mut Random, unit: u32, short: bool, data: &mut Vec<u8>) -> Dra
 }
 
 /// One thing wrong with a piece.
-fn spoil(random: &mut Random, draft: &mut Draft, data: u32) {
+pub fn spoil(random: &mut Random, draft: &mut Draft, data: u32) {
     match random.below(11) {
         0 => draft.kind = random.pick(&[0, 4, 5, 0x0100_0001, u32::MAX]),
         1 => *draft = Draft { kind: 3, length: random.pick(&[1, 4, u32::MAX]), last: 0, ..*draft },
@@ -155,7 +155,7 @@ fn spoil(random: &mut Random, draft: &mut Draft, data: u32) {
 }
 
 /// One thing wrong with the header.
-fn spoil_header(random: &mut Random, plan: &mut Vec<u8>) {
+pub fn spoil_header(random: &mut Random, plan: &mut Vec<u8>) {
     let size = plan.len() as u32;
     let (at, word) = match random.below(8) {
         0 => (0, random.pick(&[65, 66, 255, 256, 0x0100_0000, u32::MAX])),

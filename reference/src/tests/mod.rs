@@ -1,11 +1,13 @@
 //! Tests of the reference: the paper's pieces with known weight, the slips seen on the bench, each refusal number,
-//! the series of demand 3, the flood-fill receiver, and calls as text.
+//! the series of demand 3, two plans compared, the flood-fill receiver, and calls as text.
 
+mod difference_refusals;
 mod flood_series;
 mod floods;
 mod loads;
 mod maps;
 mod outcomes;
+mod plan_differences;
 mod plans;
 mod read_back;
 mod receivers;

@@ -1,6 +1,6 @@
 //! Calls as text: what is written is read again, and what is no call is refused.
 
-use crate::text::{read_call, write_bytes, Buffers};
+use crate::text::{read_call, shortened, write_bytes, Buffers};
 
 fn numbers(line: &str) -> Option<Vec<u64>> {
     read_call(line, &mut Buffers::default()).map(|(_, numbers)| numbers)
@@ -29,6 +29,29 @@ fn a_buffer_is_kept() {
     assert!(read_call("pack_aplx = =", &mut buffers).is_some());
     assert!(read_call("aplx_read = =", &mut buffers).is_some());
     assert_eq!((buffers.input, buffers.output), (vec![1, 2], vec![0x55, 0xee, 0xee]));
+}
+
+#[test]
+fn the_old_plan_is_a_memory_and_the_new_one_an_input() {
+    let mut buffers = Buffers::default();
+    assert_eq!(read_call("compare x0102 x03 xa5*8192", &mut buffers), Some(("compare", vec![])));
+    buffers.output[1] = 7;
+    assert!(read_call("plan_read x0405 0", &mut buffers).is_some());
+    assert!(read_call("compare = = =", &mut buffers).is_some());
+    assert_eq!((buffers.memory, buffers.input), (vec![1, 2], vec![4, 5]));
+    assert_eq!((buffers.output[1], buffers.output.len()), (7, 8192));
+    for line in ["compare x x", "compare x x x x", "compare x x xa5*8193", "compare x x x 0"] {
+        assert_eq!(numbers(line), None, "{line}");
+    }
+}
+
+#[test]
+fn a_shortened_buffer() {
+    assert_eq!(shortened(&[]), "");
+    assert_eq!(shortened(&[7]), "+07*1");
+    assert_eq!(shortened(&[0xa5; 8192]), "+a5*8192");
+    assert_eq!(shortened(&[0xa5, 1, 0xa5, 0xa5]), "a501+a5*2");
+    assert_eq!(shortened(&[1, 2]), "01+02*1");
 }
 
 #[test]

@@ -1,5 +1,6 @@
 -- The numbers decide the outcome: two outcomes of one call with the same eight numbers are the same. Each is given back by its numbers.
 use mathlib.Core.Path.{_≡_, refl, sym, ap, _∙_}
+use mathlib.Core.Bool.{true, false}
 use mathlib.Core.List.{List}
 use Prim.Native.Nat.{ℕ}
 use lib.Dec.{eqb}
@@ -11,7 +12,9 @@ use Rattle.plan.specs.Code as read
 use Rattle.plan.specs.Packed as packed
 use Rattle.scp.specs.Answer as scp
 use Rattle.flood_fill.specs.Answer as flood
-use Rattle.outcome_numbers.specs.Numbers.{END, UNKNOWN, RUN, START, RESPONSE, SILENT, READ, PACKED, ACCEPTED, IGNORED, MISSING, DONE, loadNumbers, replyNumbers, readNumbers, packNumbers, messageNumbers}
+use Rattle.compare.specs.Code as compare
+use Rattle.compare.specs.Compare.{Which, neither, oldPlan, newPlan}
+use Rattle.outcome_numbers.specs.Numbers.{END, UNKNOWN, RUN, START, RESPONSE, SILENT, READ, PACKED, ACCEPTED, IGNORED, MISSING, DONE, SAME-RUN, OTHER-RUN, loadNumbers, replyNumbers, readNumbers, packNumbers, messageNumbers, comparedNumbers}
 
 -- ---- the numbers by name
 module _ (l : List ℕ) where
@@ -26,6 +29,9 @@ module _ (l : List ℕ) where
 
   abbrev kind : Kind
   kind = if eqb (getD l 3 0) 1 then arm else thumb
+
+  abbrev which : Which
+  which = if eqb (getD l 3 0) 1 then oldPlan else if eqb (getD l 3 0) 2 then newPlan else neither
 
   abbrev address : ℕ
   address = getD l 4 0
@@ -127,3 +133,21 @@ message-back flood.done = refl
 
 pub message-injective : (x y : flood.Answer) → messageNumbers x ≡ messageNumbers y → x ≡ y
 message-injective x y e = sym (message-back x) ∙ ap message-of e ∙ message-back y
+
+-- ---- plans compared
+abbrev compared-of : List ℕ → compare.Outcome
+compared-of l =
+    if eqb (event l) SAME-RUN then compare.found (items l) true
+    else if eqb (event l) OTHER-RUN then compare.found (items l) false
+    else compare.refusal (which l) (refusal l) (place l)
+
+compared-back : (b : ℕ) (x : compare.Outcome) → compared-of (comparedNumbers b x) ≡ x
+compared-back b (compare.refusal neither n p) = refl
+compared-back b (compare.refusal oldPlan n p) = refl
+compared-back b (compare.refusal newPlan n p) = refl
+compared-back b (compare.found k true) = refl
+compared-back b (compare.found k false) = refl
+
+-- whatever bytes the stretches of each have
+pub compared-injective : (b c : ℕ) (x y : compare.Outcome) → comparedNumbers b x ≡ comparedNumbers c y → x ≡ y
+compared-injective b c x y e = sym (compared-back b x) ∙ ap compared-of e ∙ compared-back c y
