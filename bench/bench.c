@@ -1,4 +1,4 @@
-/* The library against plain C that does the same, and against memcpy and memset, in one run. Prints ratios of the least times.
+/* The library against plain C that does the same, and against memcpy, memset and memcmp, in one run. Prints ratios of the least times.
  * Every row first shows that both leave the same bytes and outcomes. */
 #include "../include/reidhintsje.h"
 #include "plain.h"
@@ -12,7 +12,8 @@ enum { KIB = 1024, MIB = 1024 * 1024, ROUNDS = 9 };
 #define SIZE ((size_t)33 * MIB)
 
 static uint8_t map[132], ascending[132], mixed[132], *ours, *theirs, *rom, *plan, *image, *out1, *out2, packet[272], reply1[272], reply2[272];
-static size_t rom_length, plan_length, image_length, packet_length;
+static uint8_t *old_plan, *new_plan;
+static size_t rom_length, plan_length, image_length, packet_length, old_length, new_length;
 static uint64_t outcome1[8], outcome2[8];
 static const uint32_t identity[REIDHINTSJE_IDENTITY_NUMBERS];
 static size_t limit_length;
@@ -35,6 +36,8 @@ static void library_pack_aplx(void) { reidhintsje_pack_aplx(plan, plan_length, o
 static void plain_pack_aplx_(void) { plain_pack_aplx(plan, plan_length, out2, 5 * MIB, outcome2); }
 static void library_aplx_read(void) { reidhintsje_aplx_read(image, image_length, out1, 5 * MIB, outcome1); }
 static void plain_aplx_read_(void) { plain_aplx_read(image, image_length, out2, 5 * MIB, outcome2); }
+static void library_compare(void) { reidhintsje_compare(old_plan, old_length, new_plan, new_length, out1, 5 * MIB, outcome1); }
+static void plain_compare_(void) { plain_compare(old_plan, old_length, new_plan, new_length, out2, 5 * MIB, outcome2); }
 static void library_scp(void) { reidhintsje_scp_answer(map, 132, ours, SIZE, identity, packet, packet_length, reply1, 272, outcome1); }
 static void plain_scp(void) { plain_scp_answer(map, 132, theirs, SIZE, packet, packet_length, reply2, 272, outcome2); }
 
@@ -85,6 +88,8 @@ static void library_flood_one(void) { library_flood_block(0); }
 static void plain_flood_one(void) { plain_flood_block(0); }
 static void limit_copy(void) { memcpy(theirs + 17 * MIB, theirs + MIB, limit_length); }
 static void limit_fill(void) { memset(theirs + 17 * MIB, 5, limit_length); }
+static volatile int differs; /* so that the comparison is made */
+static void limit_compare(void) { differs = memcmp(ours + 17 * MIB, theirs + 17 * MIB, limit_length); }
 
 static double least(void (*act)(void), double so_far)
 {
@@ -194,6 +199,38 @@ static void make_image(uint32_t count)
     image_length = outcome1[REIDHINTSJE_BYTES];
 }
 
+/* a plan to be compared: so many pieces of one length, the next one a step behind the last. Puts have data of their own, and leave what
+ * fills leave */
+static size_t make_pieces(uint8_t *to, uint32_t count, uint32_t kind, uint32_t address, uint32_t step, uint32_t length)
+{
+    uint32_t data = kind == 1 ? count * length : 0;
+    word(to, count);
+    word(to + 4, 16);
+    word(to + 8, 16 + 16 * count);
+    word(to + 12, data);
+    for (uint32_t i = 0; i < count; i++) {
+        uint8_t *p = to + 16 + 16 * i;
+        word(p, kind);
+        word(p + 4, address + step * i);
+        word(p + 8, length);
+        word(p + 12, kind == 1 ? length * i : 0x01020304);
+    }
+    for (uint32_t k = 0; k < data; k += 4) word(to + 16 + 16 * count + k, 0x01020304);
+    return 16 + 16 * count + data;
+}
+
+/* the data of the new plan, which are puts, with other bytes: from the first on so many, each a step behind the last */
+static void change(uint32_t count, uint32_t step)
+{
+    for (uint32_t k = 0; k < count; k++) new_plan[16 + 16 * new_plan[0] + step * k] ^= 255;
+}
+
+static void make_plans(uint32_t count, uint32_t old_kind, uint32_t new_kind, uint32_t address, uint32_t step, uint32_t length)
+{
+    old_length = make_pieces(old_plan, count, old_kind, address, step, length);
+    new_length = make_pieces(new_plan, count, new_kind, address, step, length);
+}
+
 static void make_packet(uint32_t command, uint32_t address, uint32_t length)
 {
     word(packet, command | 0x00110000);
@@ -222,10 +259,12 @@ int main(void)
     theirs = malloc(SIZE);
     rom = malloc(5 * MIB);
     plan = malloc(MIB);
+    old_plan = malloc(5 * MIB);
+    new_plan = malloc(5 * MIB);
     image = malloc(5 * MIB);
     out1 = malloc(5 * MIB);
     out2 = malloc(5 * MIB);
-    if (!ours || !theirs || !rom || !plan || !image || !out1 || !out2) return 2;
+    if (!ours || !theirs || !rom || !plan || !old_plan || !new_plan || !image || !out1 || !out2) return 2;
     for (size_t i = 0; i < SIZE; i++) ours[i] = i * 13 + 1;
     memset(reply1, 0, 272);
     memset(reply2, 0, 272);
@@ -262,6 +301,25 @@ int main(void)
     limit_length = 4 * MIB;
     make_image(64);
     row("reading back an APLX image of 4 MiB", library_aplx_read, plain_aplx_read_, limit_copy, "memcpy");
+    make_plans(64, 1, 1, 0x20000000, 64 * KIB, 64 * KIB);
+    change(5, 800000);
+    row("comparing puts of 4 MiB with puts", library_compare, plain_compare_, limit_compare, "memcmp");
+    make_plans(64, 2, 1, 0x20000000, 64 * KIB, 64 * KIB);
+    change(5, 800000);
+    row("comparing fills of 4 MiB with puts", library_compare, plain_compare_, limit_compare, "memcmp");
+    make_plans(64, 2, 2, 0x20000000, 64 * KIB, 64 * KIB);
+    word(new_plan + 16 + 16 * 63 + 12, 0x05060708); /* the last fill */
+    row("comparing fills of 4 MiB with fills", library_compare, plain_compare_, limit_compare, "memcmp");
+    make_plans(8, 1, 1, 0, 0xffffffe0 / 7, 32); /* the first at address 0, the last ends at the last address */
+    change(5, 50);
+    row("comparing 8 puts of 32 bytes, far apart", library_compare, plain_compare_, 0, 0);
+    make_plans(8, 1, 1, 0, 64, 32);
+    change(5, 50);
+    row("the same, 32 bytes between them", library_compare, plain_compare_, 0, 0);
+    make_plans(64, 1, 1, 0, 64, 32);
+    row("comparing 64 puts of 32 bytes, equal", library_compare, plain_compare_, 0, 0);
+    change(512, 4);
+    row("the same, 512 stretches", library_compare, plain_compare_, 0, 0);
     make_packet(2, 0x20000000, 256);
     row("SCP READ of 256 bytes", library_scp, plain_scp, 0, 0);
     make_packet(3, 0x20000000, 256);

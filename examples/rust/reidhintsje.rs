@@ -30,6 +30,10 @@ mod linked {
         pub fn reidhintsje_aplx_read(
             image: *const u8, image_length: usize, output: *mut u8, output_length: usize, outcome: *mut u64,
         ) -> u32;
+        pub fn reidhintsje_compare(
+            old_plan: *const u8, old_length: usize, new_plan: *const u8, new_length: usize,
+            output: *mut u8, output_length: usize, outcome: *mut u64,
+        ) -> u32;
         pub fn reidhintsje_flood_fill_start(
             receiver: *mut u8, image: *const u8, image_length: usize, last_block: u32, block_size: u32,
             outcome: *mut u64,
@@ -50,6 +54,9 @@ mod linked {
 pub const MAP_BYTES: usize = 132;
 pub const SCP_OUTPUT_BYTES: usize = 272;
 pub const RECEIVER_BYTES: usize = 1544;
+pub const STRETCH_BYTES: usize = 16;
+pub const MOST_STRETCHES: usize = 512;
+pub const COMPARE_OUTPUT_BYTES: usize = STRETCH_BYTES * MOST_STRETCHES;
 
 /// A flood-fill receiver; all zeros is the empty one.
 pub type Receiver = [u8; RECEIVER_BYTES];
@@ -78,6 +85,8 @@ pub enum Event {
     Ignored,
     Missing,
     Done,
+    SameRun,
+    OtherRun,
 }
 
 /// What code a run enters.
@@ -85,6 +94,22 @@ pub enum Event {
 pub enum Kind {
     Arm,
     Thumb,
+}
+
+/// The plan that a refused comparison is about.
+#[derive(Clone, Copy, Debug, PartialEq, Eq)]
+pub enum Which {
+    Old,
+    New,
+}
+
+/// Addresses in a row at which two plans differ, and the bytes that they leave at the first; None where it is not stored.
+#[derive(Clone, Copy, Debug, PartialEq, Eq)]
+pub struct Stretch {
+    pub first: u32,
+    pub last: u32,
+    pub old: Option<u8>,
+    pub new: Option<u8>,
 }
 
 /// What plans are read for.
@@ -137,15 +162,27 @@ impl Outcome {
             10 => Event::Ignored,
             11 => Event::Missing,
             12 => Event::Done,
+            13 => Event::SameRun,
+            14 => Event::OtherRun,
             other => unreachable!("event {other}"),
         }
     }
 
     /// The kind of a run; None where there was none.
     pub fn kind(&self) -> Option<Kind> {
-        match self.numbers[3] {
-            1 => Some(Kind::Arm),
-            2 => Some(Kind::Thumb),
+        match (self.refusal(), self.numbers[3]) {
+            (0, 1) => Some(Kind::Arm),
+            (0, 2) => Some(Kind::Thumb),
+            _ => None,
+        }
+    }
+
+    /// The plan that a comparison refused; None where it was neither.
+    pub fn which(&self) -> Option<Which> {
+        match (self.refusal(), self.numbers[3]) {
+            (0, _) => None,
+            (_, 1) => Some(Which::Old),
+            (_, 2) => Some(Which::New),
             _ => None,
         }
     }
@@ -159,7 +196,7 @@ impl Outcome {
         self.numbers[5] as u32
     }
 
-    /// How many entries, blocks or pieces; or missing words.
+    /// How many entries, blocks, pieces or stretches; or missing words.
     pub fn items(&self) -> u64 {
         self.numbers[6]
     }
@@ -231,6 +268,23 @@ pub fn pack_aplx(plan: &[u8], output: &mut [u8]) -> Outcome {
 pub fn aplx_read(image: &[u8], output: &mut [u8]) -> Outcome {
     call(|outcome| unsafe {
         linked::reidhintsje_aplx_read(image.as_ptr(), image.len(), output.as_mut_ptr(), output.len(), outcome)
+    })
+}
+
+/// Compares two plans. The stretches in which they differ stand at the output's front, which stretches() reads.
+pub fn compare(old: &[u8], new: &[u8], output: &mut [u8]) -> Outcome {
+    let (at, length) = (output.as_mut_ptr(), output.len());
+    call(|outcome| unsafe {
+        linked::reidhintsje_compare(old.as_ptr(), old.len(), new.as_ptr(), new.len(), at, length, outcome)
+    })
+}
+
+/// The stretches that a comparison left in its output; none where it was refused.
+pub fn stretches(outcome: Outcome, output: &[u8]) -> impl Iterator<Item = Stretch> + '_ {
+    let count = if outcome.refusal() == 0 { outcome.items() as usize } else { 0 };
+    output.chunks_exact(STRETCH_BYTES).take(count).map(|bytes| {
+        let word = |i: usize| u32::from_le_bytes(bytes[4 * i..4 * i + 4].try_into().unwrap());
+        Stretch { first: word(0), last: word(1), old: u8::try_from(word(2)).ok(), new: u8::try_from(word(3)).ok() }
     })
 }
 
