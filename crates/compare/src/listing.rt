@@ -13,13 +13,14 @@ ghost use Rattle.compare.specs.Reading.{addresses};
 ghost use Rattle.compare.specs.Code.Collected.{withBlock};
 ghost use Rattle.compare.specs.Compare.{mostStretches, stretchSize, stretchBytes};
 use crate::block::Block;
+use crate::compare::MOST_STRETCHES;
 use crate::compare::STRETCH_SIZE;
 
 // Words of a stretch.
 const STRETCH_WORDS: usize = 4;
 
 // The words of a list: those of one stretch more than an answer has at most, so that one more can always be added.
-pub(crate) const WORDS: usize = 2052;
+pub(crate) const WORDS: usize = STRETCH_WORDS * (MOST_STRETCHES + 1);
 
 // Whether the last of `count` stretches ends just before an address.
 fn adjoins(words: &[u32], count: usize, first: u32) -> bool

@@ -67,7 +67,7 @@ pub record Compares (c : Compared) (old new : List Piece) : Type 0 where
 abbrev pub Claims : Comparison → Type 0
 Claims compare =
     (n : ℕ) (old new : List ℕ) → Bytes old → Bytes new → stretchSize * mostStretches ≤ n
-    → (olds news : List Piece) → readCompared old ≡ pieces olds → readCompared new ≡ pieces news → Compares (compare n old new) olds news
+    → (old-pieces new-pieces : List Piece) → readCompared old ≡ pieces old-pieces → readCompared new ≡ pieces new-pieces → Compares (compare n old new) old-pieces new-pieces
 
 -- ---- what is compared is what the plan means
 -- the run that the end of a stretch names

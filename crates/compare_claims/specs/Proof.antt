@@ -18,9 +18,9 @@ use Rattle.compare.specs.Reading.Bytes.{compared-bytes}
 use Rattle.compare_claims.specs.Proof.Exact.{exact}
 
 -- what is compared, of plans that are read, with room
-pub compared-pieces : (n : ℕ) (old new : List ℕ) → stretchSize * mostStretches ≤ n → {olds news : List Piece}
-    → readCompared old ≡ pieces olds → readCompared new ≡ pieces news
-    → compared n old new ≡ limited (differences addresses olds news) (sameRun (runOf olds) (runOf news))
+pub compared-pieces : (n : ℕ) (old new : List ℕ) → stretchSize * mostStretches ≤ n → {old-pieces new-pieces : List Piece}
+    → readCompared old ≡ pieces old-pieces → readCompared new ≡ pieces new-pieces
+    → compared n old new ≡ limited (differences addresses old-pieces new-pieces) (sameRun (runOf old-pieces) (runOf new-pieces))
 unfolding compared comparedBelow
 compared-pieces n old new h e f = rw (le-ltb n (stretchSize * mostStretches) h, e, f)
 
@@ -33,8 +33,8 @@ refusals = record {
 }
 
 pub claims : Claims compared
-claims n old new b c h olds news e f = record {
-  stretches = differences addresses olds news;
-  exact = exact addresses olds news (readable old e .ends) (readable new f .ends) (compared-bytes old b e) (compared-bytes new c f);
+claims n old new b c h old-pieces new-pieces e f = record {
+  stretches = differences addresses old-pieces new-pieces;
+  exact = exact addresses old-pieces new-pieces (readable old e .ends) (readable new f .ends) (compared-bytes old b e) (compared-bytes new c f);
   answer = compared-pieces n old new h e f;
 }

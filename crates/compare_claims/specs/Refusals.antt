@@ -15,7 +15,7 @@ pub record Refusals (compare : Comparison) : Type 0 where
   -- "A refused plan gives 01's number and which plan, the old one first"
   pub old-refused : (n : ℕ) (old new : List ℕ) → stretchSize * mostStretches ≤ n → {x i : ℕ} → readCompared old ≡ refused x i
       → compare n old new ≡ refuses oldPlan x i
-  pub new-refused : (n : ℕ) (old new : List ℕ) → stretchSize * mostStretches ≤ n → {olds : List Piece} {x i : ℕ} → readCompared old ≡ pieces olds
+  pub new-refused : (n : ℕ) (old new : List ℕ) → stretchSize * mostStretches ≤ n → {old-pieces : List Piece} {x i : ℕ} → readCompared old ≡ pieces old-pieces
       → readCompared new ≡ refused x i → compare n old new ≡ refuses newPlan x i
 
 -- ---- which plans are read, and for what others are refused

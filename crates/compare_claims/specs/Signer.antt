@@ -40,12 +40,12 @@ exactly-unique = answers.exactly-unique
 -- every comparison of which the claims hold gives our answer, for two plans that are read
 pub determined :
     (compare : Comparison) → Claims compare → (n : ℕ) (old new : List ℕ) → Bytes old → Bytes new → stretchSize * mostStretches ≤ n
-    → (olds news : List Piece) → readCompared old ≡ pieces olds → readCompared new ≡ pieces news → compare n old new ≡ compared n old new
-determined compare claims n old new b c h olds news e f =
-    let d = claims n old new b c h olds news e f in
-    let r : Reads n old new = record { room = h; olds = olds; news = news; old-read = e; new-read = f } in
-    let z = exactly-unique (stretch olds) (stretch news) (d .stretches) (differences addresses olds news) (d .exact) (answer-exact n old new r b c) in
-    d .answer ∙ ap (λ (l : List Stretch). limited l (sameRun (runOf olds) (runOf news))) z ∙ sym (answer n old new r)
+    → (old-pieces new-pieces : List Piece) → readCompared old ≡ pieces old-pieces → readCompared new ≡ pieces new-pieces → compare n old new ≡ compared n old new
+determined compare claims n old new b c h old-pieces new-pieces e f =
+    let d = claims n old new b c h old-pieces new-pieces e f in
+    let r : Reads n old new = record { room = h; old-pieces = old-pieces; new-pieces = new-pieces; old-read = e; new-read = f } in
+    let z = exactly-unique (stretch old-pieces) (stretch new-pieces) (d .stretches) (differences addresses old-pieces new-pieces) (d .exact) (answer-exact n old new r b c) in
+    d .answer ∙ ap (λ (l : List Stretch). limited l (sameRun (runOf old-pieces) (runOf new-pieces))) z ∙ sym (answer n old new r)
 
 -- and every one that refuses as is said gives it for any two files
 pub determined-all :
@@ -60,28 +60,28 @@ determined-all compare claims refusals n old new b c = go (ltb n (stretchSize * 
     go false h (refused x i) e q f =
         let l = ltb-false n (stretchSize * mostStretches) h in
         refusals .old-refused n old new l e ∙ sym (our-refusals .old-refused n old new l e)
-    go false h (pieces olds) e (refused x i) f =
+    go false h (pieces old-pieces) e (refused x i) f =
         let l = ltb-false n (stretchSize * mostStretches) h in
         refusals .new-refused n old new l e f ∙ sym (our-refusals .new-refused n old new l e f)
-    go false h (pieces olds) e (pieces news) f = determined compare claims n old new b c (ltb-false n (stretchSize * mostStretches) h) olds news e f
+    go false h (pieces old-pieces) e (pieces new-pieces) f = determined compare claims n old new b c (ltb-false n (stretchSize * mostStretches) h) old-pieces new-pieces e f
 
 -- ---- a list that is found
 module _ (n : ℕ) (old new : List ℕ) (old-bytes : Bytes old) (new-bytes : Bytes new) {l : List Stretch} {same : Bool} (found : compared n old new ≡ finds l same)
-    (olds news : List Piece) (old-read : readCompared old ≡ pieces olds) (new-read : readCompared new ≡ pieces news)
+    (old-pieces new-pieces : List Piece) (old-read : readCompared old ≡ pieces old-pieces) (new-read : readCompared new ≡ pieces new-pieces)
   where
     abbrev reads : Reads n old new
-    reads = record { room = finds-reads n old new found .room; olds = olds; news = news; old-read = old-read; new-read = new-read }
+    reads = record { room = finds-reads n old new found .room; old-pieces = old-pieces; new-pieces = new-pieces; old-read = old-read; new-read = new-read }
 
     -- it is exact
-    pub found-exact : Exactly (stretch olds) (stretch news) l
+    pub found-exact : Exactly (stretch old-pieces) (stretch new-pieces) l
     found-exact = rw (found-facts n old new reads found .1) at (answer-exact n old new reads old-bytes new-bytes)
 
     -- an address that is different is in one of its stretches, and in no other
-    pub once : (x : ℕ) → Different (stretch olds) (stretch news) x → times x l ≡ 1
+    pub once : (x : ℕ) → Different (stretch old-pieces) (stretch new-pieces) x → times x l ≡ 1
     once x d = listed-once 0 x l (found-exact .ordered) (found-exact .complete x d)
 
     -- any other is in none
-    pub never : (x : ℕ) → (Different (stretch olds) (stretch news) x → ⊥) → times x l ≡ 0
+    pub never : (x : ℕ) → (Different (stretch old-pieces) (stretch new-pieces) x → ⊥) → times x l ≡ 0
     never x d = not-listed x l (λ h. d (found-exact .listed x h))
 
 -- ---- a plan and itself
@@ -106,13 +106,13 @@ same-exchanged (at a) (at b) = eqb-turned b a
 
 -- the other way round: the same stretches, old and new byte exchanged
 exchanged-answer : (n : ℕ) (old new : List ℕ) (r : Reads n old new)
-    → compared n new old ≡ limited (exchanged (differences addresses (r .olds) (r .news))) (sameRun (runOf (r .olds)) (runOf (r .news)))
+    → compared n new old ≡ limited (exchanged (differences addresses (r .old-pieces) (r .new-pieces))) (sameRun (runOf (r .old-pieces)) (runOf (r .new-pieces)))
 exchanged-answer n old new r =
-    let f = lastByte (stretch (r .olds)) in
-    let g = lastByte (stretch (r .news)) in
+    let f = lastByte (stretch (r .old-pieces)) in
+    let g = lastByte (stretch (r .new-pieces)) in
     compared-pieces n new old (r .room) (r .new-read) (r .old-read)
-    ∙ ap (λ (l : List Stretch). limited l (sameRun (runOf (r .news)) (runOf (r .olds)))) (below-exchanged f g addresses)
-    ∙ ap (limited (exchanged (differences addresses (r .olds) (r .news)))) (same-exchanged (runOf (r .olds)) (runOf (r .news)))
+    ∙ ap (λ (l : List Stretch). limited l (sameRun (runOf (r .new-pieces)) (runOf (r .old-pieces)))) (below-exchanged f g addresses)
+    ∙ ap (limited (exchanged (differences addresses (r .old-pieces) (r .new-pieces)))) (same-exchanged (runOf (r .old-pieces)) (runOf (r .new-pieces)))
 
 pub exchanged-finds : (n : ℕ) (old new : List ℕ) {l : List Stretch} {same : Bool} → compared n old new ≡ finds l same
     → compared n new old ≡ finds (exchanged l) same
@@ -121,7 +121,7 @@ exchanged-finds n old new {l} {same} e =
     let f = found-facts n old new r e in
     let g : length (exchanged l) ≤ mostStretches = omega (arith, length-exchanged l, f .0, ap length (f .1)) in
     exchanged-answer n old new r
-    ∙ ap (λ (k : List Stretch). limited (exchanged k) (sameRun (runOf (r .olds)) (runOf (r .news)))) (f .1)
+    ∙ ap (λ (k : List Stretch). limited (exchanged k) (sameRun (runOf (r .old-pieces)) (runOf (r .new-pieces)))) (f .1)
     ∙ ap (limited (exchanged l)) (f .2)
     ∙ ap (λ (b : Bool). if b then refuses neither 18 512 else finds (exchanged l) same) (le-ltb mostStretches (length (exchanged l)) g)
 
@@ -129,8 +129,8 @@ exchanged-finds n old new {l} {same} e =
 pub exchanged-refuses : (n : ℕ) (old new : List ℕ) → compared n old new ≡ refuses neither 18 512 → compared n new old ≡ refuses neither 18 512
 exchanged-refuses n old new e =
     let r = many-reads n old new e in
-    let d = differences addresses (r .olds) (r .news) in
-    let same = sameRun (runOf (r .olds)) (runOf (r .news)) in
+    let d = differences addresses (r .old-pieces) (r .new-pieces) in
+    let same = sameRun (runOf (r .old-pieces)) (runOf (r .new-pieces)) in
     let f = from-then (ltb mostStretches (length d)) finds-no-refuses (sym (answer n old new r) ∙ e) in
     let g : mostStretches < length (exchanged d) = omega (arith, length-exchanged d, ltb-true mostStretches (length d) (f .0)) in
     exchanged-answer n old new r
@@ -143,12 +143,12 @@ exchanged-refuses n old new e =
 -- where no stretch is found, the two plans leave the same memory, with any map that is sound for it and permits both
 pub equal-effect :
     (n : ℕ) (old new : List ℕ) → Bytes old → Bytes new → {same : Bool} → compared n old new ≡ finds [] same
-    → (olds news : List Piece) → readCompared old ≡ pieces olds → readCompared new ≡ pieces news
-    → (map : Map) (m : List ℕ) → sound map (length m) ≡ true → Stopped (meaning (lookup map) olds 0 m .finish) → Stopped (meaning (lookup map) news 0 m .finish)
-    → meaning (lookup map) olds 0 m .memory ≡ meaning (lookup map) news 0 m .memory
-equal-effect n old new b c e olds news f g map m sounds s t =
-    same-memory (lookup map) m (lawful map (length m) sounds) olds news (compared-bytes old b f) (compared-bytes new c g)
-    (none-same (stretch olds) (stretch news) (found-exact n old new b c e olds news f g)) s t
+    → (old-pieces new-pieces : List Piece) → readCompared old ≡ pieces old-pieces → readCompared new ≡ pieces new-pieces
+    → (map : Map) (m : List ℕ) → sound map (length m) ≡ true → Stopped (meaning (lookup map) old-pieces 0 m .finish) → Stopped (meaning (lookup map) new-pieces 0 m .finish)
+    → meaning (lookup map) old-pieces 0 m .memory ≡ meaning (lookup map) new-pieces 0 m .memory
+equal-effect n old new b c e old-pieces new-pieces f g map m sounds s t =
+    same-memory (lookup map) m (lawful map (length m) sounds) old-pieces new-pieces (compared-bytes old b f) (compared-bytes new c g)
+    (none-same (stretch old-pieces) (stretch new-pieces) (found-exact n old new b c e old-pieces new-pieces f g)) s t
 
 -- ---- the run
 same-run-is : (r q : Run) → sameRun r q ≡ true → r ≡ q
@@ -159,20 +159,20 @@ same-run-is (at a) none e = true-is-false (sym e)
 
 -- of two stretches that are permitted, under whatever map and memory
 module _ (n : ℕ) (old new : List ℕ) {l : List Stretch} {same : Bool} (found : compared n old new ≡ finds l same)
-    (olds news : List Piece) (old-read : readCompared old ≡ pieces olds) (new-read : readCompared new ≡ pieces news)
-    (find : Lookup) (m : List ℕ) (old-stops : Stopped (meaning find olds 0 m .finish)) (new-stops : Stopped (meaning find news 0 m .finish))
+    (old-pieces new-pieces : List Piece) (old-read : readCompared old ≡ pieces old-pieces) (new-read : readCompared new ≡ pieces new-pieces)
+    (find : Lookup) (m : List ℕ) (old-stops : Stopped (meaning find old-pieces 0 m .finish)) (new-stops : Stopped (meaning find new-pieces 0 m .finish))
   where
-    runs : sameRun (runOf olds) (runOf news) ≡ same
+    runs : sameRun (runOf old-pieces) (runOf new-pieces) ≡ same
     runs =
-        found-facts n old new (record { room = finds-reads n old new found .room; olds = olds; news = news; old-read = old-read; new-read = new-read }) found .2
+        found-facts n old new (record { room = finds-reads n old new found .room; old-pieces = old-pieces; new-pieces = new-pieces; old-read = old-read; new-read = new-read }) found .2
 
     -- "the runs are the same": the same address, or neither has a run
-    pub same-run : same ≡ true → namedBy (meaning find olds 0 m .finish) ≡ namedBy (meaning find news 0 m .finish)
+    pub same-run : same ≡ true → namedBy (meaning find old-pieces 0 m .finish) ≡ namedBy (meaning find new-pieces 0 m .finish)
     same-run e =
-        run-meant find olds m old-stops ∙ same-run-is (runOf olds) (runOf news) (runs ∙ e) ∙ sym (run-meant find news m new-stops)
+        run-meant find old-pieces m old-stops ∙ same-run-is (runOf old-pieces) (runOf new-pieces) (runs ∙ e) ∙ sym (run-meant find new-pieces m new-stops)
 
     -- otherwise they differ
-    pub other-run : same ≡ false → namedBy (meaning find olds 0 m .finish) ≡ namedBy (meaning find news 0 m .finish) → ⊥
+    pub other-run : same ≡ false → namedBy (meaning find old-pieces 0 m .finish) ≡ namedBy (meaning find new-pieces 0 m .finish) → ⊥
     other-run e z =
-        let y = sym (run-meant find olds m old-stops) ∙ z ∙ run-meant find news m new-stops in
-        true-is-false (sym (same-itself (runOf olds)) ∙ ap (sameRun (runOf olds)) y ∙ runs ∙ e)
+        let y = sym (run-meant find old-pieces m old-stops) ∙ z ∙ run-meant find new-pieces m new-stops in
+        true-is-false (sym (same-itself (runOf old-pieces)) ∙ ap (sameRun (runOf old-pieces)) y ∙ runs ∙ e)

@@ -47,17 +47,19 @@ pub record Sides (old new : List ℕ) (x : ℕ) (g : Sources) : Type 0 where
   pub new-reaches : Reaches new (g .new) x (g .end)
 
 -- those of the old plan's segment, and of the new plan's within it
-pub sides : (old new : List ℕ) (x : ℕ) (p q : Segment) → x < addresses → SegmentOf old x addresses p → SegmentOf new x (p .end) q
-    → Sides old new x (record { old = p .source; new = q .source; end = q .end })
-sides old new x p q h f g =
-    let i = segment-most new x (p .end) q g in
-    let m = segment-most old x addresses p f in
+pub sides :
+    (old new : List ℕ) (x : ℕ) (old-segment new-segment : Segment) → x < addresses → SegmentOf old x addresses old-segment
+    → SegmentOf new x (old-segment .end) new-segment
+    → Sides old new x (record { old = old-segment .source; new = new-segment .source; end = new-segment .end })
+sides old new x old-segment new-segment h f g =
+    let i = segment-most new x (old-segment .end) new-segment g in
+    let m = segment-most old x addresses old-segment f in
     record {
-      above = segment-above new x (p .end) q g (segment-above old x addresses p f h);
+      above = segment-above new x (old-segment .end) new-segment g (segment-above old x addresses old-segment f h);
       most = omega arith;
-      old-byte = λ y k l. segment-byte old x addresses p f y k (omega arith);
-      new-byte = λ y k l. segment-byte new x (p .end) q g y k l;
-      old-reaches = segment-reaches old x addresses p f x (q .end) (omega arith) i;
+      old-byte = λ y k l. segment-byte old x addresses old-segment f y k (omega arith);
+      new-byte = λ y k l. segment-byte new x (old-segment .end) new-segment g y k l;
+      old-reaches = segment-reaches old x addresses old-segment f x (new-segment .end) (omega arith) i;
       new-reaches = g .reaches;
     }
 

@@ -21,7 +21,7 @@ use Rattle.compare.specs.LastByte.{storedBy, byteAt, notStored}
 use Rattle.compare.specs.LastByte.Exact.{byte-at}
 use Rattle.compare.specs.LastByte.Segment.{nothing, sourceByte, covering, border, last-segment}
 use Rattle.compare.specs.Code.{imageOf}
-use Rattle.compare.specs.Code.Segment.{sourceIs, stored, Reaches}
+use Rattle.compare.specs.Code.Segment.{sourceIs, givenBy, stored, Reaches}
 
 -- ---- bytes
 pub put-byte : (s : List ℕ) (a o n x : ℕ) → a ≤ x → x < a + n → getD s (o + (x - a)) 0 ≡ byteAt (put a (take n (drop o s))) x
@@ -93,22 +93,23 @@ equal-pairs {a} {b} {c} {d} e f = ap (λ (k : ℕ). eqb k b) e ∙ ap (eqb c) f
 
 -- where not both store, whether the values are equal is the same at all addresses
 pub one-stored :
-    (s t : List ℕ) (p q : code-source.Source) (x : ℕ) → Bytes s → Bytes t → Reaches s p x (x + 1) → Reaches t q x (x + 1)
-    → (stored p && stored q) ≡ false → eqb (sourceByte (sourceIs s p) x) (sourceByte (sourceIs t q) x) ≡ Bool·beq (stored p) (stored q)
-one-stored s t p q x b d h g e = go (stored p) refl (stored q) refl e
+    (old new : List ℕ) (old-source new-source : code-source.Source) (x : ℕ) → Bytes old → Bytes new → Reaches old old-source x (x + 1)
+    → Reaches new new-source x (x + 1) → (stored old-source && stored new-source) ≡ false
+    → eqb (givenBy old old-source x) (givenBy new new-source x) ≡ Bool·beq (stored old-source) (stored new-source)
+one-stored old new old-source new-source x b d h g e = go (stored old-source) refl (stored new-source) refl e
   where
-    go : (m : Bool) → stored p ≡ m → (n : Bool) → stored q ≡ n → (m && n) ≡ false
-        → eqb (sourceByte (sourceIs s p) x) (sourceByte (sourceIs t q) x) ≡ Bool·beq m n
+    go : (m : Bool) → stored old-source ≡ m → (n : Bool) → stored new-source ≡ n → (m && n) ≡ false
+        → eqb (givenBy old old-source x) (givenBy new new-source x) ≡ Bool·beq m n
     go true k true l f = true-is-false f
     go true k false l f =
-        let i = stored-below s p x b h k in
-        let j = none-stored t q x l in
-        ne-eqb (sourceByte (sourceIs s p) x) (sourceByte (sourceIs t q) x) (λ z. omega arith)
+        let i = stored-below old old-source x b h k in
+        let j = none-stored new new-source x l in
+        ne-eqb (givenBy old old-source x) (givenBy new new-source x) (λ z. omega arith)
     go false k true l f =
-        let i = stored-below t q x d g l in
-        let j = none-stored s p x k in
-        ne-eqb (sourceByte (sourceIs s p) x) (sourceByte (sourceIs t q) x) (λ z. omega arith)
-    go false k false l f = eq-eqb _ _ (none-stored s p x k ∙ sym (none-stored t q x l))
+        let i = stored-below new new-source x d g l in
+        let j = none-stored old old-source x k in
+        ne-eqb (givenBy old old-source x) (givenBy new new-source x) (λ z. omega arith)
+    go false k false l f = eq-eqb _ _ (none-stored old old-source x k ∙ sym (none-stored new new-source x l))
 
 -- what holds from a on and below x, and at x, holds below x + 1
 pub more : (P : ℕ → Type 0) (a x : ℕ) → ((y : ℕ) → a ≤ y → y < x → P y) → P x → (y : ℕ) → a ≤ y → y < x + 1 → P y

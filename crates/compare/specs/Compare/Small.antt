@@ -31,17 +31,17 @@ all-small old new a (s ∷ l) b c o e v =
 -- ---- what is found
 module _ (bound : ℕ) (P : List Stretch → Type 0) where
   below-found : (old new : Read) {l : List Stretch} {same : Bool} → comparedBelow bound old new ≡ finds l same
-      → ((olds news : List Piece) → old ≡ pieces olds → new ≡ pieces news → P (differences bound olds news)) → P l
+      → ((old-pieces new-pieces : List Piece) → old ≡ pieces old-pieces → new ≡ pieces new-pieces → P (differences bound old-pieces new-pieces)) → P l
   unfolding comparedBelow
   below-found (refused x i) new e f = absurd (refuses-no-finds e)
-  below-found (pieces olds) (refused x i) e f = absurd (refuses-no-finds e)
-  below-found (pieces olds) (pieces news) e f = rw (limited-finds (differences bound olds news) _ e .1) at (f olds news refl refl)
+  below-found (pieces old-pieces) (refused x i) e f = absurd (refuses-no-finds e)
+  below-found (pieces old-pieces) (pieces new-pieces) e f = rw (limited-finds (differences bound old-pieces new-pieces) _ e .1) at (f old-pieces new-pieces refl refl)
 
 pub found-small : (old new : List ℕ) → Bytes old → Bytes new → {l : List Stretch} {same : Bool}
     → comparedBelow addresses (readCompared old) (readCompared new) ≡ finds l same → All Small l
 found-small old new b c e =
     below-found addresses (All Small) (readCompared old) (readCompared new) e
-    (λ olds news f g.
-    let x = lastByte (stretch olds) in
-    let y = lastByte (stretch news) in
-    all-small (stretch olds) (stretch news) 0 (differences addresses olds news) (compared-bytes old b f) (compared-bytes new c g) (ordered x y addresses) (ends x y addresses) (valued x y addresses))
+    (λ old-pieces new-pieces f g.
+    let x = lastByte (stretch old-pieces) in
+    let y = lastByte (stretch new-pieces) in
+    all-small (stretch old-pieces) (stretch new-pieces) 0 (differences addresses old-pieces new-pieces) (compared-bytes old b f) (compared-bytes new c g) (ordered x y addresses) (ends x y addresses) (valued x y addresses))

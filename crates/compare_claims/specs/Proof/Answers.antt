@@ -29,10 +29,10 @@ use Rattle.compare_claims.specs.Proof.{compared-pieces}
 -- ---- two plans that were read, with room
 pub record Reads (n : ℕ) (old new : List ℕ) : Type 0 where
   pub room : stretchSize * mostStretches ≤ n
-  pub olds : List Piece
-  pub news : List Piece
-  pub old-read : readCompared old ≡ pieces olds
-  pub new-read : readCompared new ≡ pieces news
+  pub old-pieces : List Piece
+  pub new-pieces : List Piece
+  pub old-read : readCompared old ≡ pieces old-pieces
+  pub new-read : readCompared new ≡ pieces new-pieces
 
 -- an answer that no refusal of a plan, nor of the output, gives
 module _ (n : ℕ) (old new : List ℕ) (c : Compared) (no-room : refuses neither 10 0 ≡ c → ⊥)
@@ -48,7 +48,7 @@ module _ (n : ℕ) (old new : List ℕ) (c : Compared) (no-room : refuses neithe
             → comparedBelow addresses r q ≡ c → Reads n old new
         go h (refused x i) f q g e = absurd (no-old x i e)
         go h (pieces ps) f (refused x i) g e = absurd (no-new x i e)
-        go h (pieces ps) f (pieces qs) g e = record { room = h; olds = ps; news = qs; old-read = f; new-read = g }
+        go h (pieces ps) f (pieces qs) g e = record { room = h; old-pieces = ps; new-pieces = qs; old-read = f; new-read = g }
 
 pub finds-reads : (n : ℕ) (old new : List ℕ) {l : List Stretch} {same : Bool} → compared n old new ≡ finds l same → Reads n old new
 finds-reads n old new {l} {same} e = both-read n old new (finds l same) refuses-no-finds (λ x i. refuses-no-finds) (λ x i. refuses-no-finds) e
@@ -60,19 +60,19 @@ many-reads n old new e =
 
 -- ---- the answer is exact
 module _ (n : ℕ) (old new : List ℕ) (r : Reads n old new) where
-  pub answer : compared n old new ≡ limited (differences addresses (r .olds) (r .news)) (sameRun (runOf (r .olds)) (runOf (r .news)))
+  pub answer : compared n old new ≡ limited (differences addresses (r .old-pieces) (r .new-pieces)) (sameRun (runOf (r .old-pieces)) (runOf (r .new-pieces)))
   answer = compared-pieces n old new (r .room) (r .old-read) (r .new-read)
 
-  pub answer-exact : Bytes old → Bytes new → Exactly (stretch (r .olds)) (stretch (r .news)) (differences addresses (r .olds) (r .news))
+  pub answer-exact : Bytes old → Bytes new → Exactly (stretch (r .old-pieces)) (stretch (r .new-pieces)) (differences addresses (r .old-pieces) (r .new-pieces))
   answer-exact b c =
-      exact addresses (r .olds) (r .news) (readable old (r .old-read) .ends) (readable new (r .new-read) .ends)
+      exact addresses (r .old-pieces) (r .new-pieces) (readable old (r .old-read) .ends) (readable new (r .new-read) .ends)
       (compared-bytes old b (r .old-read)) (compared-bytes new c (r .new-read))
 
   -- of an answer with stretches: 512 at most, and they and the run are those of the two plans
   pub found-facts : {l : List Stretch} {same : Bool} → compared n old new ≡ finds l same
-      → (length (differences addresses (r .olds) (r .news)) ≤ mostStretches) × (differences addresses (r .olds) (r .news) ≡ l)
-      × (sameRun (runOf (r .olds)) (runOf (r .news)) ≡ same)
-  found-facts e = limited-finds (differences addresses (r .olds) (r .news)) (sameRun (runOf (r .olds)) (runOf (r .news))) (sym answer ∙ e)
+      → (length (differences addresses (r .old-pieces) (r .new-pieces)) ≤ mostStretches) × (differences addresses (r .old-pieces) (r .new-pieces) ≡ l)
+      × (sameRun (runOf (r .old-pieces)) (runOf (r .new-pieces)) ≡ same)
+  found-facts e = limited-finds (differences addresses (r .old-pieces) (r .new-pieces)) (sameRun (runOf (r .old-pieces)) (runOf (r .new-pieces))) (sym answer ∙ e)
 
 -- ---- exact stretches are the only ones
 pub exactly-unique : (old new : List Piece) (l k : List Stretch) → Exactly old new l → Exactly old new k → l ≡ k

@@ -22,7 +22,7 @@ use Rattle.compare.specs.Compare.{Compared, refuses, finds}
 use Rattle.compare_claims.specs.Claims.{Claims}
 use Rattle.compare_claims.specs.Proof.Leaves.{none-stores}
 use Rattle.compare_claims.specs.Refuted.Comparisons.{comparing, Way, our-way, answerBelow, comparingBy, refusing, finding-nothing, all-pieces, first-piece, whereBoth, both-store, exchanging, single, singles, each-address, withLast, last-bytes, withZero, zero-shown, any-run}
-use Rattle.compare_claims.specs.Refuted.Example.{olds, news, old-ends, new-ends, says, Quiet, says-below, stores-none, last-none}
+use Rattle.compare_claims.specs.Refuted.Example.{old-pieces, new-pieces, old-ends, new-ends, says, Quiet, says-below, stores-none, last-none}
 
 -- ---- what they give
 -- an answer as numbers: 1 for the same run and 0 for another, then four words a stretch; or 2, the refusal's number and place
@@ -31,7 +31,7 @@ numbers (refuses w x i) = 2 ∷ x ∷ i ∷ []
 numbers (finds l same) = (if same then 1 else 0) ∷ wordsOf l
 
 abbrev given : Way → List ℕ
-given way = numbers (answerBelow way 64 olds news)
+given way = numbers (answerBelow way 64 old-pieces new-pieces)
 
 abbrev byOurs : List ℕ
 byOurs = 0 ∷ 4 ∷ 8 ∷ 1 ∷ 256 ∷ 12 ∷ 15 ∷ 256 ∷ 1 ∷ []
@@ -51,8 +51,8 @@ pub record Given : Type 0 where
       given each-address
       ≡ 0 ∷ 4 ∷ 4 ∷ 1 ∷ 256 ∷ 5 ∷ 5 ∷ 1 ∷ 256 ∷ 6 ∷ 6 ∷ 1 ∷ 256 ∷ 7 ∷ 7 ∷ 1 ∷ 256 ∷ 8 ∷ 8 ∷ 2 ∷ 1
       ∷ 12 ∷ 12 ∷ 256 ∷ 1 ∷ 13 ∷ 13 ∷ 256 ∷ 1 ∷ 14 ∷ 14 ∷ 256 ∷ 1 ∷ 15 ∷ 15 ∷ 256 ∷ 1 ∷ []
-  pub by-refusing : numbers (refusing olds news) ≡ 2 ∷ 18 ∷ 512 ∷ []
-  pub by-finding-nothing : numbers (finding-nothing olds news) ≡ 0 ∷ []
+  pub by-refusing : numbers (refusing old-pieces new-pieces) ≡ 2 ∷ 18 ∷ 512 ∷ []
+  pub by-finding-nothing : numbers (finding-nothing old-pieces new-pieces) ≡ 0 ∷ []
 
 pub what-is-given : Given
 unfolding numbers answerBelow stretch add below wordsOf storedBy after afterAll lastByte storesAt runOf whereBoth single singles withLast withZero rows-group.rows
@@ -71,11 +71,11 @@ what-is-given = record {
 }
 
 -- ---- their images are equal from address 64 on
-old-none : (x : ℕ) → 64 ≤ x → lastByte (stretch olds) x ≡ notStored
-old-none = last-none (stretch olds) (stretch-all (EndsBy 64) olds old-ends)
+old-none : (x : ℕ) → 64 ≤ x → lastByte (stretch old-pieces) x ≡ notStored
+old-none = last-none (stretch old-pieces) (stretch-all (EndsBy 64) old-pieces old-ends)
 
-new-none : (x : ℕ) → 64 ≤ x → lastByte (stretch news) x ≡ notStored
-new-none = last-none (stretch news) (stretch-all (EndsBy 64) news new-ends)
+new-none : (x : ℕ) → 64 ≤ x → lastByte (stretch new-pieces) x ≡ notStored
+new-none = last-none (stretch new-pieces) (stretch-all (EndsBy 64) new-pieces new-ends)
 
 equal : {f g : ℕ → ℕ} → ((x : ℕ) → 64 ≤ x → f x ≡ notStored) → ((x : ℕ) → 64 ≤ x → g x ≡ notStored) → (x : ℕ) → 64 ≤ x → not (eqb (f x) (g x)) ≡ false
 equal {f} {g} h k x l = ap not (eq-eqb (f x) (g x) (h x l ∙ sym (k x l)))
@@ -84,20 +84,20 @@ our-images : Quiet our-way
 our-images = equal old-none new-none
 
 all-images : Quiet all-pieces
-all-images = equal (last-none olds old-ends) (last-none news new-ends)
+all-images = equal (last-none old-pieces old-ends) (last-none new-pieces new-ends)
 
 reversed-none : (ps : List Piece) → All (EndsBy 64) ps → (x : ℕ) → 64 ≤ x → lastByte (reverse (stretch ps)) x ≡ notStored
 reversed-none ps e = last-none (reverse (stretch ps)) (all-reverse (EndsBy 64) (stretch ps) (stretch-all (EndsBy 64) ps e))
 
 first-images : Quiet first-piece
-first-images = equal (reversed-none olds old-ends) (reversed-none news new-ends)
+first-images = equal (reversed-none old-pieces old-ends) (reversed-none new-pieces new-ends)
 
-both-none : (ps : List Piece) (x : ℕ) → 64 ≤ x → whereBoth (stretch olds) (stretch news) ps x ≡ notStored
+both-none : (ps : List Piece) (x : ℕ) → 64 ≤ x → whereBoth (stretch old-pieces) (stretch new-pieces) ps x ≡ notStored
 unfolding whereBoth
-both-none ps x h = rw (none-stores (stretch olds) x (stores-none (stretch olds) (stretch-all (EndsBy 64) olds old-ends) x h))
+both-none ps x h = rw (none-stores (stretch old-pieces) x (stores-none (stretch old-pieces) (stretch-all (EndsBy 64) old-pieces old-ends) x h))
 
 both-images : Quiet both-store
-both-images = equal (both-none (stretch olds)) (both-none (stretch news))
+both-images = equal (both-none (stretch old-pieces)) (both-none (stretch new-pieces))
 
 -- ---- the refutations
 at-index : (k : ℕ) {l m : List ℕ} → l ≡ m → getD l k 0 ≡ getD m k 0
