@@ -16,13 +16,17 @@ pub record EntryAt (image : List ℕ) (k c x y z : ℕ) : Type 0 where
   pub second : littleEndianAt 4 image (k + 8) ≡ y
   pub third : littleEndianAt 4 image (k + 12) ≡ z
 
+-- "RCOPY's source is the address of that entry plus the offset, modulo 2^32, so data may lie before": the offset in the image from which the
+-- entry at offset k copies
+abbrev pub sourceOf : ℕ → ℕ → ℕ
+sourceOf k offset = (k + offset) % 4294967296
+
 -- "2 RCOPY": destination, offset, length. The data may stand anywhere in the image, over its entries too, and be shared
 pub record PutAt (image : List ℕ) (k a : ℕ) (d : List ℕ) : Type 0 where
   pub offset : ℕ
   pub entry : EntryAt image k 2 a offset (length d)
-  -- "RCOPY's source is the address of that entry plus the offset, modulo 2^32, so data may lie before": its offset in the image
   pub source : ℕ
-  pub from-here : (k + offset) % 4294967296 ≡ source
+  pub from-here : sourceOf k offset ≡ source
   -- "3 (destination, then source, multiples of 4)"
   pub aligned : source % 4 ≡ 0
   pub inside : source + length d ≤ length image

@@ -11,6 +11,7 @@ use Rattle.words.specs.Choice.{if_then_else_}
 use Rattle.words.specs.Bytes.{littleEndianAt}
 use Rattle.plan.specs.Plan.{Row, putRow, fillRow, runRow, pieceIn, Read, refused, pieces, before}
 use Rattle.plan.specs.Packed.{Packed, packedAs}
+use Rattle.aplx_image.specs.Carries.{sourceOf}
 use Rattle.aplx_read.specs.PlanBytes.{planBytes}
 
 -- what an entry is
@@ -36,10 +37,9 @@ judgeRange a n x =
     else if not (eqb (a % 4) 0) then bad 3
     else x
 
--- where the data of an RCOPY stands in the image: entry e, with this offset ("RCOPY's source is the address of that entry plus the offset,
--- modulo 2^32", paper 01)
+-- where the data of an RCOPY stands in the image: entry e, with this offset
 abbrev pub source : ℕ → ℕ → ℕ
-source e offset = (16 * e + offset) % 4294967296
+source e offset = sourceOf (16 * e) offset
 
 -- "then RCOPY offset, not a multiple of 4, 3; RCOPY data outside the slice, 23"
 unfoldable pub judgeCopy : List ℕ → ℕ → ℕ → ℕ → ℕ → Entry

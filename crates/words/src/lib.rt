@@ -4,3 +4,4 @@ pub mod put; // numbers into bytes
 pub mod turned; // numbers with their bytes the other way round
 pub mod four; // four words at a time
 pub mod range; // ranges that share a number, and lengths rounded up
+pub mod equal; // slices with the same bytes

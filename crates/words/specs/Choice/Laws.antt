@@ -23,6 +23,23 @@ pub leb-same : (a b c d : ℕ) → (a ≤ b → c ≤ d) → (c ≤ d → a ≤ 
 leb-same a b c d f g =
     same-test (leb a b) (leb c d) (λ e. le-leb c d (f (leb-true a b e))) (λ e. le-leb a b (g (leb-true c d e)))
 
+-- a test that cannot hold fails
+pub fails : (t : Bool) → (t ≡ true → ⊥) → t ≡ false
+fails true n = absurd (n refl)
+fails false n = refl
+
+pub and-true : (t : Bool) → (t && true) ≡ t
+and-true true = refl
+and-true false = refl
+
+pub and-false : (t : Bool) → (t && false) ≡ false
+and-false true = refl
+and-false false = refl
+
+pub and-assoc : (s t u : Bool) → ((s && t) && u) ≡ (s && (t && u))
+and-assoc true t u = refl
+and-assoc false t u = refl
+
 pub both : (s t : Bool) → (s && t) ≡ true → (s ≡ true) × (t ≡ true)
 both true t e = (refl, e)
 both false t e = true-is-false (sym e)
