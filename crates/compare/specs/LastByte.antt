@@ -9,19 +9,8 @@ use Prim.Native.Nat.{ℕ, _+_, _-_}
 use lib.Dec.{leb, ltb}
 use lib.ListN.{length, getD}
 use Rattle.words.specs.Choice.{if_then_else_}
-use Rattle.word_blocks.specs.Repeat.{filling}
-use Rattle.plan.specs.Plan.{Piece, put, fill, run}
-
-abbrev pub addressOf : Piece → ℕ
-addressOf (put a d) = a
-addressOf (fill a n w) = a
-addressOf (run a) = a
-
--- "put stores its data bytes, and fill repeats its word, Little Endian, cut at the length"
-unfoldable pub storedBy : Piece → List ℕ
-storedBy (put a d) = d
-storedBy (fill a n w) = filling n w
-storedBy (run a) = []
+use Rattle.plan.specs.Plan.{Piece, addressOf}
+use Rattle.plan.specs.Meaning.{storedBy}
 
 -- the first address behind what a piece stores
 abbrev pub endOf : Piece → ℕ

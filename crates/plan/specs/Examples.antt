@@ -36,6 +36,7 @@ record Plans : Type 0 where
   pub cut-data : readPlan 32 (take 40 (plan 1 (3 ∷ 0 ∷ 0 ∷ 0 ∷ []) ones)) ≡ refused 2 0
   pub kind : readPlan 32 (plan 1 (4 ∷ 0 ∷ 0 ∷ 0 ∷ []) []) ≡ refused 11 0
   pub run-length : readPlan 32 (plan 1 (3 ∷ 2 ∷ 4 ∷ 0 ∷ []) []) ≡ refused 11 0
+  pub run-word : readPlan 32 (plan 1 (3 ∷ 2 ∷ 0 ∷ 4 ∷ []) []) ≡ refused 11 0
   pub run-two : readPlan 32 (plan 1 (3 ∷ 2 ∷ 0 ∷ 0 ∷ []) []) ≡ refused 9 0
   -- 5 before 11 and 3, 11 before 3, 3 before 2, 2 before 12
   pub zero-first : readPlan 32 (plan 1 (2 ∷ 1 ∷ 0 ∷ 0 ∷ []) []) ≡ refused 5 0
@@ -62,6 +63,7 @@ plans = record {
   cut-data = refl;
   kind = refl;
   run-length = refl;
+  run-word = refl;
   run-two = refl;
   zero-first = refl;
   long-first = refl;

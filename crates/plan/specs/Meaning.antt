@@ -30,6 +30,12 @@ permit find (put a d) = ranged (find Write a (length d))
 permit find (fill a n w) = ranged (find Write a n)
 permit find (run a) = entered (runEntry find a)
 
+-- "put stores its data bytes, and fill repeats its word, Little Endian, cut at the length": the bytes that a piece stores
+unfoldable pub storedBy : Piece → List ℕ
+storedBy (put a d) = d
+storedBy (fill a n w) = filling n w
+storedBy (run a) = []
+
 -- "upwards from its address, put stores its data bytes, and fill repeats its word, Little Endian, cut at the length"
 abbrev pub storeAt : Found → List ℕ → List ℕ → List ℕ
 storeAt (map.at p) d m = store m p d

@@ -25,6 +25,12 @@ dataOf (put a d) = d
 dataOf (fill a n w) = []
 dataOf (run a) = []
 
+-- the address from which on a piece stores, or that it runs
+abbrev pub addressOf : Piece → ℕ
+addressOf (put a d) = a
+addressOf (fill a n w) = a
+addressOf (run a) = a
+
 -- the length that a piece fills
 abbrev pub filledBy : Piece → ℕ
 filledBy (put a d) = 0

@@ -6,9 +6,10 @@ use Prim.Native.Nat.{ℕ}
 use lib.ListN.{length, take, replicate}
 use Rattle.words.specs.Bytes.{littleEndian}
 use Rattle.outcome.specs.Outcome.{arm, thumb}
+use Rattle.memory_map.specs.declared.map.Map.{Map}
 use Rattle.memory_map.specs.Lookup.{Lookup, lookupIn}
 use Rattle.scp.specs.declared.answer.Identity.{Identity}
-use Rattle.scp.specs.Answer.{silent, responds, runs, without, runPacket, readPacket, writePacket, packet, answered}
+use Rattle.scp.specs.Answer.{refused, silent, responds, runs, without, runPacket, readPacket, writePacket, packet, answered, scpAnswer}
 use Rattle.scp.specs.Open as group
 use Rattle.scp.specs.Reply.{version}
 
@@ -99,6 +100,9 @@ record Others : Type 0 where
   pub under-four : packet find identity (take 3 (asks 0 0 0 0)) memory ≡ without silent memory
   pub over-most : packet find identity (asks 0 0 0 0 ++ replicate 257 0) memory .response ≡ 0x81 ∷ 0 ∷ 0x11 ∷ 0x22 ∷ []
   pub unknown : packet find identity (asks 5 0 0 0) memory .response ≡ 0x83 ∷ 0 ∷ 0x11 ∷ 0x22 ∷ []
+  -- an output of 271 bytes is too small, whatever the map
+  pub small-output : (map : Map) → scpAnswer map identity (asks 0 0 0 0) memory (replicate 271 9)
+      ≡ record { reply = refused 10 0; memory = memory; output = replicate 271 9 }
   -- the output past the response stays as it was
   pub past-response : answered (packet find identity (asks 2 4096 4 0) memory) (replicate 10 9) .output ≡ 0x80 ∷ 0 ∷ 0x11 ∷ 0x22 ∷ 7 ∷ 7 ∷ 7 ∷ 7 ∷ 9 ∷ 9 ∷ []
 
@@ -114,5 +118,6 @@ others = record {
   under-four = refl;
   over-most = refl;
   unknown = refl;
+  small-output = λ map. refl;
   past-response = refl;
 }

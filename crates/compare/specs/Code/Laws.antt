@@ -14,10 +14,10 @@ use Rattle.words.specs.Bytes.Laws.{length-littleEndian, bytes-of}
 use Rattle.word_blocks.specs.Repeat.{repeated, filling}
 use Rattle.plan.specs.Plan.{put, fill}
 use Rattle.plan.specs.Packed.{planPieces}
-use Rattle.plan.specs.Meaning.{stretch}
+use Rattle.plan.specs.Meaning.{stretch, storedBy}
 use Rattle.compare.specs.declared.segment.Source as code-source
 use Rattle.compare.specs.declared.segment.Source.the-variants.{Nothing, Put, Fill}
-use Rattle.compare.specs.LastByte.{storedBy, byteAt, notStored}
+use Rattle.compare.specs.LastByte.{byteAt, notStored}
 use Rattle.compare.specs.LastByte.Exact.{byte-at}
 use Rattle.compare.specs.LastByte.Segment.{nothing, sourceByte, covering, border, last-segment}
 use Rattle.compare.specs.Code.{imageOf}

@@ -12,7 +12,7 @@ use Rattle.words.specs.Choice.{if_then_else_}
 use Rattle.word_blocks.specs.Repeat.Laws.{length-filling}
 use Rattle.plan.specs.declared.piece.Piece as code-piece
 use Rattle.plan.specs.declared.piece.Piece.the-variants as code
-use Rattle.plan.specs.Plan.{put, fill, run}
+use Rattle.plan.specs.Plan.{put, fill, run, addressOf}
 use Rattle.plan.specs.Plan.Laws.{data-length}
 use Rattle.plan.specs.Code.{pieceIs}
 use Rattle.plan.specs.Code.Packer.{Writable}
@@ -20,7 +20,8 @@ use Rattle.compare.specs.declared.segment.Span.{Span}
 use Rattle.compare.specs.declared.segment.Source as code-source
 use Rattle.compare.specs.declared.segment.Source.the-variants.{Nothing, Put, Fill}
 use Rattle.compare.specs.declared.segment.Segment.{Segment}
-use Rattle.compare.specs.LastByte.{addressOf, storedBy, endOf, covers}
+use Rattle.plan.specs.Meaning.{storedBy}
+use Rattle.compare.specs.LastByte.{endOf, covers}
 use Rattle.compare.specs.LastByte.Laws.{covers-at, covers-below, covers-past}
 use Rattle.compare.specs.LastByte.Segment.{Source, nothing, piece, sourceByte, newer, nearer, nearer-below, nearer-at, nearer-past}
 

@@ -7,12 +7,12 @@ use lib.ListN.{replicate}
 use Rattle.words.specs.Bytes.{littleEndian}
 use Rattle.word_blocks.specs.Open.{rows}
 use Rattle.plan.specs.Plan.{Piece, put, fill, run, refused, pieces}
-use Rattle.plan.specs.Meaning.{stretch}
+use Rattle.plan.specs.Meaning.{stretch, storedBy}
 use Rattle.plan.specs.Open.{reader}
 use Rattle.stretches.specs.Stretches.{add, below}
 use Rattle.stretches.specs.Stretches.Words.{wordsOf}
 use Rattle.words.specs.Four.{fourBytes}
-use Rattle.compare.specs.LastByte.{storedBy, after, afterAll, lastByte}
+use Rattle.compare.specs.LastByte.{after, afterAll, lastByte}
 use Rattle.compare.specs.Reading.{comparedAt, comparedPieces, readCompared, runOf}
 use Rattle.compare.specs.Compare.{neither, oldPlan, newPlan, Compared, refuses, finds, limited, comparedBelow, stretchBytes, compared, outputAfter}
 

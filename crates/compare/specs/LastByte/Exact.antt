@@ -12,9 +12,10 @@ use Rattle.words.specs.Choice.Laws.{true-is-false}
 use Rattle.words.specs.Bytes.{Bytes}
 use Rattle.word_blocks.specs.Repeat.{filling}
 use Rattle.word_blocks.specs.Repeat.Laws.{filling-bytes}
-use Rattle.plan.specs.Plan.{Piece, put, fill, run, dataOf}
+use Rattle.plan.specs.Plan.{Piece, put, fill, run, dataOf, addressOf}
 use Rattle.stretches.specs.Stretches.{differs}
-use Rattle.compare.specs.LastByte.{addressOf, storedBy, covers, notStored, after, afterAll, lastByte}
+use Rattle.plan.specs.Meaning.{storedBy}
+use Rattle.compare.specs.LastByte.{covers, notStored, after, afterAll, lastByte}
 use Rattle.compare.specs.LastByte.Laws.{after-covered, after-other}
 
 -- one of the pieces covers address x

@@ -7,8 +7,9 @@ use native.Mathlib.Omega.{arith}
 use lib.Dec.{leb, ltb}
 use borrow.Author.Tests.{leb-true, leb-false, le-leb, lt-leb, lt-ltb, le-ltb}
 use Rattle.words.specs.Choice.{All}
-use Rattle.plan.specs.Plan.{Piece, run}
-use Rattle.compare.specs.LastByte.{addressOf, storedBy, endOf, covers, byteAt, after, afterAll}
+use Rattle.plan.specs.Plan.{Piece, run, addressOf}
+use Rattle.plan.specs.Meaning.{storedBy}
+use Rattle.compare.specs.LastByte.{endOf, covers, byteAt, after, afterAll}
 
 -- ---- one piece
 module _ (p : Piece) (x : ℕ) where

@@ -18,9 +18,9 @@ use Rattle.words.specs.Store.Laws.{length-store, element-inside, element-outsid
 use Rattle.memory_region.specs.declared.region.Right.the-variants.{Write}
 use Rattle.memory_map.specs.Lookup.{Lookup, Found, at, refused}
 use Rattle.memory_map.specs.Lookup.Laws.{Lawful}
-use Rattle.plan.specs.Plan.{Piece, put, fill, run}
-use Rattle.plan.specs.Meaning.{allowed, ranged, permit, storeAt, effect, effects}
-use Rattle.compare.specs.LastByte.{addressOf, storedBy, endOf, covers, after, afterAll}
+use Rattle.plan.specs.Plan.{Piece, put, fill, run, addressOf}
+use Rattle.plan.specs.Meaning.{allowed, ranged, permit, storeAt, effect, effects, storedBy}
+use Rattle.compare.specs.LastByte.{endOf, covers, after, afterAll}
 use Rattle.compare.specs.LastByte.Laws.{covers-at, after-covered, after-other, after-run}
 
 -- the buffer byte q of an address x, by a lookup that is lawful for n bytes

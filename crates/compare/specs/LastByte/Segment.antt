@@ -10,8 +10,8 @@ use lib.Dec.{ltb}
 use lib.ListN.{length, drop, drop-of-length-le}
 use borrow.Author.Tests.{ltb-true, ltb-false, lt-ltb, le-ltb}
 use Rattle.words.specs.Choice.{if_then_else_}
-use Rattle.plan.specs.Plan.{Piece}
-use Rattle.compare.specs.LastByte.{addressOf, endOf, covers, byteAt, notStored, after, afterAll, lastByte}
+use Rattle.plan.specs.Plan.{Piece, addressOf}
+use Rattle.compare.specs.LastByte.{endOf, covers, byteAt, notStored, after, afterAll, lastByte}
 use Rattle.compare.specs.LastByte.Laws.{covers-at, covers-below, covers-past, after-covered, after-other}
 
 -- where the last byte comes from

@@ -14,8 +14,8 @@ use Rattle.plan.specs.Plan.{Piece, put, fill, run, countOf, Row, putRow, fillRo
 use Rattle.plan.specs.Plan.Steps.{refused-no-pieces, bad-no-good}
 use Rattle.plan.specs.Plan.Laws.{headed-pieces}
 use Rattle.plan.specs.Plan.Accepts.{header-read}
-use Rattle.plan.specs.Meaning.{stretch}
-use Rattle.compare.specs.LastByte.{storedBy, covers}
+use Rattle.plan.specs.Meaning.{stretch, storedBy}
+use Rattle.compare.specs.LastByte.{covers}
 use Rattle.compare.specs.LastByte.Laws.{covers-past, covers-run}
 use Rattle.compare.specs.Reading.{addresses, endsPast, judgeLast, EndsBy, comparedAt, comparedPieces, readCompared, at}
 

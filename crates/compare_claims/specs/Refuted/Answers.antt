@@ -11,10 +11,10 @@ use Rattle.words.specs.Choice.{if_then_else_, All}
 use Rattle.words.specs.Choice.Laws.{all-reverse}
 use Rattle.word_blocks.specs.Open as rows-group
 use Rattle.plan.specs.Plan.{Piece}
-use Rattle.plan.specs.Meaning.{stretch}
+use Rattle.plan.specs.Meaning.{stretch, storedBy}
 use Rattle.stretches.specs.Stretches.{add, below}
 use Rattle.stretches.specs.Stretches.Words.{wordsOf}
-use Rattle.compare.specs.LastByte.{storedBy, notStored, after, afterAll, lastByte}
+use Rattle.compare.specs.LastByte.{notStored, after, afterAll, lastByte}
 use Rattle.compare.specs.LastByte.Exact.{storesAt}
 use Rattle.compare.specs.Reading.{runOf, EndsBy}
 use Rattle.compare.specs.Reading.Laws.{stretch-all}

@@ -8,10 +8,10 @@ use Rattle.text.specs.Digits.{digits}
 use Rattle.text.specs.Decimal.{leading, width, decimal}
 use Rattle.text.specs.Refusal.{refusalLine}
 use Rattle.plan.specs.Plan.{fill, run, refused, pieces}
-use Rattle.plan.specs.Meaning.{stretch}
+use Rattle.plan.specs.Meaning.{stretch, storedBy}
 use Rattle.plan.specs.Open.{reader}
 use Rattle.stretches.specs.Stretches.{add, below}
-use Rattle.compare.specs.LastByte.{storedBy, after, afterAll, lastByte}
+use Rattle.compare.specs.LastByte.{after, afterAll, lastByte}
 use Rattle.compare.specs.Reading.{comparedAt, comparedPieces, readCompared, runOf}
 use Rattle.compare.specs.Compare.{neither, oldPlan, newPlan, refuses, finds, comparedBelow}
 use Rattle.comparison.specs.Lines.{byteText, line, runLine, lines, printed, readFile, comparedFiles, printedFor, refusedPlan}
