@@ -45,7 +45,7 @@ load-region = record { base = 8192; length = 128; place = 128; rights = record {
 unfoldable pub example : Map
 example = add (add emptyMap image-region .map) load-region .map
 
-example-sound : sound example 256 ≡ true
+pub example-sound : sound example 256 ≡ true
 unfolding example map-group.maps
 example-sound = refl
 

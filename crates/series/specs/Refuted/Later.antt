@@ -53,7 +53,7 @@ abbrev pub repeating : ℕ → Load → Load
 repeating start load o m = record { outcome = load o m .outcome; memory = load o (load start m .memory) .memory }
 
 -- ---- what is compared
-abbrev resumeIn : Ending → ℕ
+abbrev pub resumeIn : Ending → ℕ
 resumeIn (stops (run k a r)) = r
 resumeIn (stops (end p)) = 0
 resumeIn (stops (unknown c p)) = 0

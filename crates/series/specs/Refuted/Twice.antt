@@ -102,7 +102,7 @@ srom-is = λ d o m. one o m d
     one : (o : ℕ) (m : List ℕ) → sromLoad example (sromImage four-pieces) o m ≡ sromFrom o m
     one o m = unfold sromLoad sromLook sromFrom in (rw finds)
 
-aplx-is : (λ (o : ℕ) (n : List ℕ). aplxLoad example n o) ≡ aplxFrom
+pub aplx-is : (λ (o : ℕ) (n : List ℕ). aplxLoad example n o) ≡ aplxFrom
 aplx-is = λ d o m. one o m d
   where
     one : (o : ℕ) (m : List ℕ) → aplxLoad example m o ≡ aplxFrom o m
