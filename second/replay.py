@@ -6,14 +6,15 @@ replay.py: fails where the stored file is another.
 
 The head of crates/replay/data/cases says how a call is written and what is written for it. `=` is the buffer of the same
 kind (table, memory, output, input) as the last call of the file left it. A flood-fill receiver is of the kind table, its image
-of the kind memory; a rom, a packet, a plan and an APLX image are of the kind input. Of two plans that are compared the old one is of
-the kind memory.
+of the kind memory; a rom, a packet, a plan and an APLX image are of the kind input. The old one of two plans that are compared, and the
+plan of an image that is checked, are of the kind memory.
 """
 import re
 import struct
 import sys
 import pathlib
 
+import checking
 import comparison
 import model
 
@@ -32,6 +33,7 @@ CALLS = {
     'pack_aplx': ('input', 'output'),
     'aplx_read': ('input', 'output'),
     'compare': ('memory', 'input', 'output'),
+    'aplx_check': ('memory', 'input'),
     'map_sound': ('table', LONG),
     'lookup': ('table', 4, WORD, LONG),
     'run_entry': ('table', WORD),
@@ -122,7 +124,7 @@ KIND = {'ARM': 1, 'Thumb': 2}
 
 
 def numbers(answer):
-    """The returned number and the eight numbers of the outcome, of a value that model.py or comparison.py answers."""
+    """The returned number and the eight numbers of the outcome, of a value that model.py, comparison.py or checking.py answers."""
     outcome = {
         'refused': lambda number, place, needed, plan=0: dict(refusal=number, place=place, event=0, kind=plan, bytes=needed),
         'end': lambda place, taken, stored: dict(place=place, event=1, items=taken, bytes=stored),
@@ -141,6 +143,7 @@ def numbers(answer):
         'done': lambda: dict(event=12),
         'same run': lambda stretches: dict(event=13, items=len(stretches), bytes=16 * len(stretches)),
         'other run': lambda stretches: dict(event=14, items=len(stretches), bytes=16 * len(stretches)),
+        'checked': lambda: dict(event=15),
     }[answer[0]](*answer[1:])
     eight = [outcome.get(name, 0) for name in ('refusal', 'place', 'event', 'kind', 'address', 'resume', 'items', 'bytes')]
     return [eight[0]] + eight
@@ -179,6 +182,10 @@ def aplx_read(image, output):
 
 def compare(old, new, output):
     return numbers(comparison.compare(old, new, output))
+
+
+def aplx_check(plan, image):
+    return numbers(checking.check(plan, image))
 
 
 def map_sound(table, size):

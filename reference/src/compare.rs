@@ -1,15 +1,17 @@
 //! One input given to a library and to this second implementation: every number and every byte must be the same.
 //! Each buffer that the library is lent lies between guard bytes that must stay as they were.
 
+use crate::compare_check::compare_check;
 use crate::compare_difference::compare_plans;
 use crate::compare_flood::{compare_flood, describe_flood};
 use crate::compare_read_back::{compare_old_image, compare_read};
 use crate::compare_series::{compare_series, Loads};
+use crate::compare_supplied::compare_supplied;
 use crate::generate::Case;
 use crate::guarded::{shown, Guarded, Numbers};
 use crate::interface::{Library, Outcome, Reference};
 use crate::random::Random;
-use crate::series::Step;
+use crate::series::{Medium, Step};
 use crate::tally::{
     identity_kind, load_kind, memory_kind, number_kind, reply_kind, rights_kind, table_kind, taken_kind, Tally,
 };
@@ -144,6 +146,13 @@ pub fn compare(
         Case::Compare { old, new, output } => {
             return compare_plans(library, old, new, output, random, tally);
         }
+        Case::AplxCheck { plan, image, made, known } => {
+            return compare_check(library, plan, image, made, *known, random, tally);
+        }
+        Case::SuppliedImage { plan, image, table, memory, at, steps } => {
+            let loads = Loads { table, memory, medium: Medium::Aplx { image: *at }, steps };
+            return compare_supplied(library, plan, image, &loads, random, tally);
+        }
         Case::FloodFill(flood) => return compare_flood(flood, library, random, tally),
     }
     Ok(1)
@@ -223,6 +232,17 @@ pub fn describe(case: &Case) -> String {
         Case::Compare { old, new, output } => {
             format!("compare\n  old {}\n  new {}\n  output of {} bytes\n", shown(old), shown(new), output.len())
         }
+        Case::AplxCheck { plan, image, made, known } => {
+            format!("aplx_check\n  plan {}\n  image {}\n  made: {made}, {known:?}\n", shown(plan), shown(image))
+        }
+        Case::SuppliedImage { plan, image, table, memory, at, steps } => format!(
+            "supplied image at {at:#x}\n  plan {}\n  image {}\n  table {}\n  memory {}\n{}",
+            shown(plan),
+            shown(image),
+            shown(table),
+            shown(memory),
+            steps_text(steps)
+        ),
         Case::FloodFill(flood) => describe_flood(flood),
     }
 }

@@ -133,6 +133,19 @@ pub unsafe extern "C" fn reidhintsje_compare(
 }
 
 #[no_mangle]
+pub unsafe extern "C" fn reidhintsje_aplx_check(
+    plan: *const u8, plan_length: usize,
+    image: *const u8, image_length: usize,
+    outcome: *mut Outcome,
+) -> u32 {
+    Reference.aplx_check(
+        from_raw_parts(plan, plan_length),
+        from_raw_parts(image, image_length),
+        &mut *outcome,
+    )
+}
+
+#[no_mangle]
 pub unsafe extern "C" fn reidhintsje_flood_fill_start(
     receiver: *mut ReceiverBytes,
     image: *const u8, image_length: usize,

@@ -3,6 +3,7 @@
 
 use crate::aplx;
 use crate::bytes::{le32, put_le32};
+use crate::check;
 use crate::flood_fill::{self, Receiver, Taken};
 use crate::map::{Map, Region, Rights, MOST_REGIONS};
 use crate::outcome::{Answer, Entry, Loaded, Refusal, Stop};
@@ -50,6 +51,7 @@ pub trait Library {
     fn pack_aplx(&self, plan: &[u8], output: &mut [u8], outcome: &mut Outcome) -> u32;
     fn aplx_read(&self, image: &[u8], output: &mut [u8], outcome: &mut Outcome) -> u32;
     fn compare(&self, old: &[u8], new: &[u8], output: &mut [u8], outcome: &mut Outcome) -> u32;
+    fn aplx_check(&self, plan: &[u8], image: &[u8], outcome: &mut Outcome) -> u32;
     fn flood_fill_start(
         &self,
         receiver: &mut ReceiverBytes,
@@ -142,6 +144,7 @@ pub mod event {
     pub const DONE: u64 = 12;
     pub const SAME_RUN: u64 = 13;
     pub const OTHER_RUN: u64 = 14;
+    pub const CHECKED: u64 = 15;
 }
 
 /// Where each number stands in the outcome, by the header.
@@ -275,6 +278,14 @@ fn difference_numbers(answer: Result<Compared, SideRefusal>) -> Outcome {
             };
             numbers
         }
+    }
+}
+
+/// The outcome numbers of an image that was checked against a plan, or refused.
+pub fn check_numbers(answer: Result<(), Refusal>) -> Outcome {
+    match answer {
+        Ok(()) => outcome_of(event::CHECKED, &[]),
+        Err(refusal) => refusal_numbers(refusal),
     }
 }
 
@@ -419,6 +430,10 @@ impl Library for Reference {
 
     fn compare(&self, old: &[u8], new: &[u8], output: &mut [u8], outcome: &mut Outcome) -> u32 {
         give(outcome, difference_numbers(plan_difference::compare(old, new, output)))
+    }
+
+    fn aplx_check(&self, plan: &[u8], image: &[u8], outcome: &mut Outcome) -> u32 {
+        give(outcome, check_numbers(check::check(plan, image)))
     }
 
     fn flood_fill_start(

@@ -3,11 +3,15 @@
 
 pub mod aplx;
 pub mod bytes;
+pub mod check;
+pub mod check_kinds;
 pub mod compare;
+pub mod compare_check;
 pub mod compare_difference;
 pub mod compare_flood;
 pub mod compare_read_back;
 pub mod compare_series;
+pub mod compare_supplied;
 pub mod difference_kinds;
 pub mod flood_fill;
 pub mod generate;

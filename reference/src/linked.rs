@@ -56,6 +56,11 @@ extern "C" {
         output: *mut u8, output_length: usize,
         outcome: *mut u64,
     ) -> u32;
+    fn reidhintsje_aplx_check(
+        plan: *const u8, plan_length: usize,
+        image: *const u8, image_length: usize,
+        outcome: *mut u64,
+    ) -> u32;
     fn reidhintsje_flood_fill_start(
         receiver: *mut u8,
         image: *const u8, image_length: usize,
@@ -184,6 +189,16 @@ impl Library for Linked {
                 old.as_ptr(), old.len(),
                 new.as_ptr(), new.len(),
                 output.as_mut_ptr(), output.len(),
+                outcome.as_mut_ptr(),
+            )
+        }
+    }
+
+    fn aplx_check(&self, plan: &[u8], image: &[u8], outcome: &mut Outcome) -> u32 {
+        unsafe {
+            reidhintsje_aplx_check(
+                plan.as_ptr(), plan.len(),
+                image.as_ptr(), image.len(),
                 outcome.as_mut_ptr(),
             )
         }

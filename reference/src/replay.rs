@@ -53,6 +53,7 @@ fn call<'a>(name: &str, n: &[u64], buffers: &'a mut Buffers) -> Option<(Vec<u64>
         "pack_aplx" => (Reference.pack_aplx(input, output, &mut outcome), vec![output]),
         "aplx_read" => (Reference.aplx_read(input, output, &mut outcome), vec![output]),
         "compare" => (Reference.compare(memory, input, output, &mut outcome), vec![output]),
+        "aplx_check" => (Reference.aplx_check(memory, input, &mut outcome), vec![]),
         "flood_fill_start" => {
             let receiver = table.as_mut_slice().try_into().ok()?;
             let number = Reference.flood_fill_start(receiver, memory, n[0] as u32, n[1] as u32, &mut outcome);

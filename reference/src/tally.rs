@@ -3,6 +3,7 @@
 use std::collections::BTreeMap;
 
 use crate::bytes::{le16, le32, share};
+use crate::check_kinds;
 use crate::difference_kinds;
 use crate::flood_fill::{Message, Receiver};
 use crate::interface::{at, event, map_of, Numbers, Outcome, TABLE};
@@ -245,6 +246,7 @@ fn refused(number: u64) -> String {
 pub fn required() -> Vec<(&'static str, String)> {
     let mut all: Vec<(&'static str, String)> =
         difference_kinds::required().into_iter().map(|what| ("compare", what)).collect();
+    all.extend(check_kinds::required().into_iter().map(|what| ("aplx_check", what)));
     let mut numbers = |call, list: &[u64]| {
         all.extend(list.iter().map(|number| (call, number_kind(*number))));
     };
@@ -290,6 +292,7 @@ pub fn required() -> Vec<(&'static str, String)> {
     words("series APLX", &["stop end", "stop run ARM", "stop run Thumb"]);
     words("series old image", &["stop end", "stop run ARM", "stop run Thumb"]);
     words("series packed again", &["stop end", "stop run ARM", "stop run Thumb"]);
+    words("series supplied", &["stop end", "stop run", "not permitted"]);
     words("aplx_read", &["no pieces", "64 pieces", "no puts", "packed to the same bytes"]);
     words("aplx_read", &["shared data", "overlapping data", "data in another order"]);
     words("aplx_read", &["backward offset", "data over entries"]);

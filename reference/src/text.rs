@@ -37,6 +37,7 @@ fn kinds(name: &str) -> Option<&'static [Kind]> {
         "plan_read" => &[Input, WORD],
         "pack_srom" | "pack_aplx" | "aplx_read" => &[Input, Output],
         "compare" => &[Memory, Input, Output],
+        "aplx_check" => &[Memory, Input],
         "map_sound" => &[Table, LONG],
         "lookup" => &[Table, Number(4), WORD, LONG],
         "run_entry" => &[Table, WORD],
@@ -47,8 +48,9 @@ fn kinds(name: &str) -> Option<&'static [Kind]> {
     })
 }
 
-/// The buffers as the last call left them. A rom, a packet, a plan and an image that is read back are inputs; a receiver is a
-/// table; an image that is received, and the old one of two plans that are compared, are memories.
+/// The buffers as the last call left them. A rom, a packet, a plan and an image that is read back or checked are inputs; a receiver
+/// is a table; an image that is received, the old one of two plans that are compared, and the plan of an image that is checked are
+/// memories.
 #[derive(Default)]
 pub struct Buffers {
     pub table: Vec<u8>,

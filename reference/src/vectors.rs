@@ -6,6 +6,7 @@ use std::fs;
 use std::process::exit;
 
 use reference::bytes::unhex;
+use reference::check_kinds;
 use reference::compare_flood::call;
 use reference::difference_kinds;
 use reference::flood_fill::Message;
@@ -20,6 +21,7 @@ use reference::tally::{
 };
 use reference::text::write_bytes;
 
+mod check_vectors;
 mod difference_vectors;
 mod flood_vectors;
 mod read_back_vectors;
@@ -36,8 +38,8 @@ const ALIKE: u64 = 7;
 /// Random inputs that are drawn for each call.
 const DRAWN: usize = 20_000;
 
-/// What can't occur with so small a memory or slice, or is not a thing of single calls. 512 stretches are left to the cases: their
-/// output is long.
+/// What can't occur with so small a memory or slice, or is not a thing of single calls. 512 stretches and 256 entries are left to the
+/// cases.
 fn beyond(call: &str, what: &str) -> bool {
     call.starts_with("series")
         || call == "flood_fill"
@@ -49,6 +51,7 @@ fn beyond(call: &str, what: &str) -> bool {
         || (call == "compare"
             && ["511 stretches", "512 stretches", "64 pieces", "output of more bytes", "with its image read back"]
                 .contains(&what))
+        || (call == "aplx_check" && (what.contains("25") || what == "a put of 65536 bytes"))
         || (call == "srom_load" && what == "refused 13")
         || (call == "aplx_load" && what == "refused  7")
 }
@@ -229,7 +232,15 @@ impl Vectors {
                     self.write(Record::new("compare").slice(old).slice(new).slice(output));
                 }
             }
-            Case::Series { .. } | Case::OldImage { .. } | Case::FloodFill(_) => {}
+            Case::AplxCheck { plan, image, made, .. } => {
+                Reference.aplx_check(plan, image, &mut outcome);
+                self.tally.count("aplx_check", check_kinds::made_kind(made));
+                for kind in check_kinds::kinds(&outcome, plan, image) {
+                    self.tally.count("aplx_check", kind);
+                }
+                self.write(Record::new("aplx_check").slice(plan).slice(image));
+            }
+            Case::Series { .. } | Case::OldImage { .. } | Case::SuppliedImage { .. } | Case::FloodFill(_) => {}
         }
     }
 
@@ -374,6 +385,9 @@ fn main() {
         vectors.add(&case, true);
     }
     for case in difference_vectors::all(&mut random) {
+        vectors.add(&case, true);
+    }
+    for case in check_vectors::all(&mut random) {
         vectors.add(&case, true);
     }
     let mut missing = vectors.tally.missing(&required());

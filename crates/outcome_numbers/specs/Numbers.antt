@@ -14,6 +14,7 @@ use Rattle.plan.specs.Packed as packed
 use Rattle.scp.specs.Answer as scp
 use Rattle.flood_fill.specs.Answer as flood
 use Rattle.compare.specs.Code as compare
+use Rattle.aplx_check.specs.Check as check
 use Rattle.compare.specs.Compare.{Which, neither, oldPlan, newPlan, mostStretches, stretchSize}
 use Rattle.outcome_numbers.specs.declared.numbers.Parts.{Parts}
 
@@ -85,6 +86,10 @@ SAME-RUN = 13
 -- two plans were compared, and their runs are not the same
 abbrev pub OTHER-RUN : ℕ
 OTHER-RUN = 14
+
+-- an image was checked against a plan, and is accepted
+abbrev pub CHECKED : ℕ
+CHECKED = 15
 
 -- the kind of a run: 0 where there is none, 1 ARM, 2 Thumb
 abbrev pub kindNumber : Kind → ℕ
@@ -186,3 +191,11 @@ comparedParts b (compare.found k same) = countParts (runEvent same) k b
 
 abbrev pub comparedNumbers : ℕ → compare.Outcome → List ℕ
 comparedNumbers b x = numbers (comparedParts b x)
+
+-- ---- an image checked against a plan
+abbrev pub checkedParts : check.Checked → Parts
+checkedParts (check.refuses n p) = refusedParts n p 0
+checkedParts check.accepted = countParts CHECKED 0 0
+
+abbrev pub checkedNumbers : check.Checked → List ℕ
+checkedNumbers x = numbers (checkedParts x)

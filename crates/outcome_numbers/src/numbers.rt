@@ -5,7 +5,8 @@ ghost use Rattle.plan.specs.Code as reader;
 ghost use Rattle.plan.specs.Code.Packer as packer;
 ghost use Rattle.scp.specs.Code.{replyOf};
 ghost use Rattle.flood_fill.specs.Answer.{answerIs};
-ghost use Rattle.outcome_numbers.specs.Numbers.{numbers, refusedParts, needed, runParts, countParts, loadParts, replyParts, readParts, packedParts, messageParts};
+ghost use Rattle.aplx_check.specs.Code.{checkedIs};
+ghost use Rattle.outcome_numbers.specs.Numbers.{numbers, refusedParts, needed, runParts, countParts, loadParts, replyParts, readParts, packedParts, messageParts, checkedParts};
 use outcome::answer::Answer;
 use outcome::answer::Entry;
 use outcome::answer::OUTPUT_TOO_SMALL;
@@ -39,6 +40,8 @@ const IGNORED: u64 = 10;
 const MISSING: u64 = 11;
 
 const DONE: u64 = 12;
+
+const CHECKED: u64 = 15;
 
 // Kinds of a run.
 const NO_KIND: u64 = 0;
@@ -241,5 +244,15 @@ pub fn message_parts(answer: flood_fill::receiver::Answer) -> Parts
             bytes: 0,
         },
         flood_fill::receiver::Answer::Done => count(DONE, 0, 0),
+    }
+}
+
+// An image that was checked against a plan.
+pub fn checked_parts(answer: aplx_check::check::Checked) -> Parts
+    ensures { λ r. ⌜ r ≡ checkedParts (checkedIs answer) ⌝ }
+{
+    match answer {
+        aplx_check::check::Checked::Refused(refusal) => refused(refusal, 0),
+        aplx_check::check::Checked::Accepted => count(CHECKED, 0, 0),
     }
 }

@@ -22,13 +22,14 @@ use Rattle.srom_pack.specs.Image.{sromImage, packSrom}
 use Rattle.aplx_pack.specs.Image.{aplxImage, packAplx}
 use Rattle.aplx_read.specs.PlanBytes.{planBytes}
 use Rattle.aplx_read.specs.ReadBack.{readImage, readBack}
+use Rattle.aplx_check.specs.Check.{check}
 use Rattle.compare.specs.Code as comparison
 use Rattle.compare.specs.Compare as compare
 use Rattle.compare.specs.Compare.{Compared, refuses, finds, stretchBytes, compared}
 use Rattle.map_table.specs.Table.{mapOf}
 use Rattle.flood_fill.specs.declared.message.Message.{Message}
 use Rattle.receiver_bytes.specs.Receiver.{Left, receiveBytes}
-use Rattle.outcome_numbers.specs.Numbers.{loadNumbers, replyNumbers, readNumbers, packNumbers, messageNumbers, comparedNumbers}
+use Rattle.outcome_numbers.specs.Numbers.{loadNumbers, replyNumbers, readNumbers, packNumbers, messageNumbers, comparedNumbers, checkedNumbers}
 
 -- ---- the map
 -- an addition: 0 where it is taken, else the refusal's number
@@ -113,6 +114,10 @@ aplxPackCall plan output = packing aplxImage (readPlan 32 plan) (packAplx plan (
 -- an image read back: the plan is what is written
 abbrev pub aplxReadCall : List ℕ → List ℕ → Packing
 aplxReadCall image output = packing planBytes (readImage image) (readBack image (length output)) output
+
+-- ---- an image checked against a plan
+abbrev pub aplxCheckCall : List ℕ → List ℕ → List ℕ
+aplxCheckCall plan image = checkedNumbers (check plan image)
 
 -- ---- plans compared
 -- the bytes of the stretches that were found

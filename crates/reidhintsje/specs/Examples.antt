@@ -9,12 +9,13 @@ use Rattle.words.specs.Store.{store}
 use Rattle.srom_pack.specs.Open as srom-group
 use Rattle.aplx_pack.specs.Open as aplx-group
 use Rattle.aplx_read.specs.Open as read-group
+use Rattle.aplx_check.specs.Open as check-group
 use Rattle.plan.specs.Open as plan-group
 use Rattle.compare.specs.Reading.{comparedAt, comparedPieces, readCompared}
 use Rattle.compare.specs.Compare.{finds, stretchBytes, comparedBelow, compared}
 use Rattle.map_table.specs.Table.{addition, tableAfter}
 use Rattle.map_table.specs.Open as table-group
-use Rattle.reidhintsje.specs.Calls.{verdictNumber, soundCall, identityOf, unitAt, sromPackCall, aplxPackCall, aplxReadCall, comparing, compareCall}
+use Rattle.reidhintsje.specs.Calls.{verdictNumber, soundCall, identityOf, unitAt, sromPackCall, aplxPackCall, aplxReadCall, aplxCheckCall, comparing, compareCall}
 
 -- ---- maps: the empty one, and one region of 256 bytes
 zeros : List ℕ
@@ -77,6 +78,16 @@ record ReadBacks : Type 0 where
 read-backs : ReadBacks
 unfolding fill-plan fill-image read-group.reader store
 read-backs = record { less = refl; whole = refl; no-end = refl }
+
+-- its image checked against the plan; without its end; and against no plan
+record Checks : Type 0 where
+  pub follows : aplxCheckCall fill-plan fill-image ≡ 0 ∷ 0 ∷ 15 ∷ 0 ∷ 0 ∷ 0 ∷ 0 ∷ 0 ∷ []
+  pub endless : aplxCheckCall fill-plan (take 31 fill-image) ≡ 30 ∷ 1 ∷ 0 ∷ 0 ∷ 0 ∷ 0 ∷ 0 ∷ 0 ∷ []
+  pub no-plan : aplxCheckCall [] fill-image ≡ 2 ∷ 0 ∷ 0 ∷ 0 ∷ 0 ∷ 0 ∷ 0 ∷ 0 ∷ []
+
+checks : Checks
+unfolding fill-plan fill-image check-group.checker
+checks = record { follows = refl; endless = refl; no-plan = refl }
 
 -- two plans compared: an output a byte too small, no bytes as the old plan and as the new one, and one stretch that was found
 record Comparisons : Type 0 where

@@ -1,4 +1,4 @@
-// The reader of plans, the packers, and the reader of APLX images.
+// The reader of plans, the packers, the reader of APLX images, and their check against a plan.
 ghost use mathlib.Core.Path.{_≡_};
 ghost use Rattle.plan.specs.Plan.{readPlan};
 ghost use Rattle.plan.specs.Code.{unitOf};
@@ -9,8 +9,9 @@ ghost use Rattle.aplx_read.specs.PlanBytes.{planBytes};
 ghost use Rattle.aplx_read.specs.ReadBack.{readImage};
 ghost use Rattle.outcome_numbers.specs.Numbers.{first};
 ghost use Rattle.outcome_numbers.specs.Numbers.Laws.{tooSmall};
-ghost use Rattle.reidhintsje.specs.Calls.{unitAt, readCall, writtenLength, sromPackCall, aplxPackCall, aplxReadCall};
+ghost use Rattle.reidhintsje.specs.Calls.{unitAt, readCall, writtenLength, sromPackCall, aplxPackCall, aplxReadCall, aplxCheckCall};
 use outcome::answer::OUTPUT_TOO_SMALL;
+use outcome_numbers::numbers::checked_parts;
 use outcome_numbers::numbers::packed_parts;
 use outcome_numbers::numbers::put;
 use outcome_numbers::numbers::read_parts;
@@ -150,4 +151,14 @@ pub extern "C" fn reidhintsje_aplx_read(
         return put(outcome, packed_parts(answer, plan));
     }
     put(outcome, packed_parts(answer, 0))
+}
+
+// Checks an APLX image against a plan.
+#[no_mangle]
+pub extern "C" fn reidhintsje_aplx_check(plan: &[u8], image: &[u8], outcome: &mut [u64; 8]) -> u32
+    ensures { λ r. ⌜ r ≡ first (now (outcome .exit)) ⌝ }
+    ensures { λ _. ⌜ now (outcome .exit) ≡ aplxCheckCall (now (plan .entry)) (now (image .entry)) ⌝ }
+{
+    let answer = aplx_check::check::check(plan, image);
+    put(outcome, checked_parts(answer))
 }

@@ -40,6 +40,9 @@ fn plan_of(line: &[u8]) -> u32 {
     if behind_word(line, b"compare ") != NONE {
         return 16;
     }
+    if behind_word(line, b"aplx_check ") != NONE {
+        return 17;
+    }
     0
 }
 
@@ -96,9 +99,9 @@ fn kind(kinds: &[u8], index: usize) -> u8 {
     if index < kinds.len() { kinds[index] } else { 0 }
 }
 
-// The kind of a call's argument: t a table, f a flood-fill receiver, m a memory, a flood-fill image or the old one of two plans, i an input (a
-// rom, a packet, a plan or an APLX image), o an output, 4 and 8 a number of so many bytes, r a right; 0 behind the last one, and n where there is
-// no such call.
+// The kind of a call's argument: t a table, f a flood-fill receiver, m a memory, a flood-fill image, the old one of two plans or the plan of an
+// image that is checked, i an input (a rom, a packet, a plan or an APLX image), o an output, 4 and 8 a number of so many bytes, r a right; 0
+// behind the last one, and n where there is no such call.
 fn kind_of(call: u32, index: usize) -> u8 {
     match call {
         1 => kind(b"t4444", index),
@@ -117,6 +120,7 @@ fn kind_of(call: u32, index: usize) -> u8 {
         14 => kind(b"fm4", index),
         15 => kind(b"io", index),
         16 => kind(b"mio", index),
+        17 => kind(b"mi", index),
         _ => b'n',
     }
 }

@@ -108,3 +108,9 @@ pub(crate) fn compare(old: &[u8], new: &[u8], out: &mut [u8]) {
     output::numbers(answer, outcome);
     output::shortened(out);
 }
+
+pub(crate) fn aplx_check(plan: &[u8], image: &[u8]) {
+    let mut outcome = [0u64; 8];
+    let answer = reidhintsje::plans::reidhintsje_aplx_check(plan, image, &mut outcome);
+    output::numbers(answer, outcome);
+}

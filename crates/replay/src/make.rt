@@ -36,7 +36,8 @@ fn made(
         13 => flood_fill::block_data(numbers, table, memory),
         14 => flood_fill::block_end(numbers, table, memory),
         15 => library::aplx_read(input, out),
-        _ => library::compare(memory, input, out),
+        16 => library::compare(memory, input, out),
+        _ => library::aplx_check(memory, input),
     }
 }
 

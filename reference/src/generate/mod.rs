@@ -1,6 +1,7 @@
 //! Random inputs of every call: valid ones, near-valid ones with one thing wrong, damaged ones, and random bytes.
 
 mod changes;
+mod checks;
 mod flood_damage;
 mod floods;
 mod images;
@@ -16,11 +17,19 @@ mod roms;
 mod rows;
 mod slices;
 mod stretches;
+mod supplied;
+mod supplied_images;
+mod supplier_data;
+mod supplier_order;
+mod supplier_words;
+mod supplies;
 
+pub use checks::{FAULTS, OTHERS};
 pub use floods::{lent_whole, Flood, Sent, Whole};
 pub use maps::Scene;
 
 use crate::interface::Numbers;
+use crate::outcome::Refusal;
 use crate::random::Random;
 use crate::series::{Medium, Step};
 
@@ -39,9 +48,13 @@ pub enum Case {
     /// `packed`: the image is just what the packer writes of a plan.
     AplxRead { image: Vec<u8>, output: Vec<u8>, packed: bool },
     Compare { old: Vec<u8>, new: Vec<u8>, output: Vec<u8> },
+    /// `made`: how the image was made; `known`: the answer that follows from it.
+    AplxCheck { plan: Vec<u8>, image: Vec<u8>, made: &'static str, known: Option<Result<(), Refusal>> },
     Series { plan: Vec<u8>, table: Vec<u8>, memory: Vec<u8>, medium: Medium, steps: Vec<Step> },
     /// An image in memory at `old`, and the packed image of the plan that is read from it at `new`.
     OldImage { image: Vec<u8>, table: Vec<u8>, memory: Vec<u8>, old: u32, new: u32, steps: Vec<Step> },
+    /// An image of another firm's packer in memory at an address.
+    SuppliedImage { plan: Vec<u8>, image: Vec<u8>, table: Vec<u8>, memory: Vec<u8>, at: u32, steps: Vec<Step> },
     FloodFill(Flood),
 }
 
@@ -66,8 +79,10 @@ pub enum Call {
     PackAplx,
     AplxRead,
     Compare,
+    AplxCheck,
     Series,
     OldImage,
+    SuppliedImage,
     FloodFill,
 }
 
@@ -84,15 +99,17 @@ pub fn case_of(call: Call, random: &mut Random, size: Size) -> Case {
         Call::PackAplx => plans::pack_aplx(random, size),
         Call::AplxRead => slices::read(random, size),
         Call::Compare => pairs::compare(random, size),
+        Call::AplxCheck => checks::check(random, size),
         Call::Series => stretches::series(random),
         Call::OldImage => old_images::old_image(random),
+        Call::SuppliedImage => supplied_images::supplied_image(random),
         Call::FloodFill => Case::FloodFill(floods::flood(random, size)),
     }
 }
 
 /// An input of any call.
 pub fn case(random: &mut Random) -> Case {
-    let call = match random.below(128) {
+    let call = match random.below(144) {
         0..=8 => Call::MapAdd,
         9..=12 => Call::MapSound,
         13..=27 => Call::SromLoad,
@@ -105,6 +122,8 @@ pub fn case(random: &mut Random) -> Case {
         100..=105 => Call::FloodFill,
         106..=114 => Call::AplxRead,
         115..=124 => Call::Compare,
+        125..=136 => Call::AplxCheck,
+        137..=140 => Call::SuppliedImage,
         _ => Call::OldImage,
     };
     case_of(call, random, Size::Free)

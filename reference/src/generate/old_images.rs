@@ -66,7 +66,7 @@ fn attempt(random: &mut Random) -> Option<Case> {
 }
 
 /// An address for a piece, that mostly is permitted and meets neither image.
-fn address(
+pub fn address(
     random: &mut Random,
     scene: &Scene,
     piece: &Piece,

@@ -1,6 +1,9 @@
 //! Tests of the reference: the paper's pieces with known weight, the slips seen on the bench, each refusal number,
-//! the series of demand 3, two plans compared, the flood-fill receiver, and calls as text.
+//! the series of demand 3, two plans compared, another firm's images checked, the flood-fill receiver, and calls as text.
 
+mod check;
+mod check_again;
+mod check_faults;
 mod difference_refusals;
 mod flood_series;
 mod floods;

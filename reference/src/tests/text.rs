@@ -46,6 +46,18 @@ fn the_old_plan_is_a_memory_and_the_new_one_an_input() {
 }
 
 #[test]
+fn the_plan_is_a_memory_and_its_image_an_input() {
+    let mut buffers = Buffers::default();
+    assert_eq!(read_call("aplx_check x0102 x03", &mut buffers), Some(("aplx_check", vec![])));
+    assert!(read_call("aplx_read x0405 x", &mut buffers).is_some());
+    assert!(read_call("aplx_check = =", &mut buffers).is_some());
+    assert_eq!((buffers.memory, buffers.input), (vec![1, 2], vec![4, 5]));
+    for line in ["aplx_check x", "aplx_check x x x", "aplx_check x x 0", "aplx_check x00*8193 x"] {
+        assert_eq!(numbers(line), None, "{line}");
+    }
+}
+
+#[test]
 fn a_shortened_buffer() {
     assert_eq!(shortened(&[]), "");
     assert_eq!(shortened(&[7]), "+07*1");

@@ -13,8 +13,9 @@ use Rattle.plan.specs.Packed as packed
 use Rattle.scp.specs.Answer as scp
 use Rattle.flood_fill.specs.Answer as flood
 use Rattle.compare.specs.Code as compare
+use Rattle.aplx_check.specs.Check as check
 use Rattle.compare.specs.Compare.{Which, neither, oldPlan, newPlan}
-use Rattle.outcome_numbers.specs.Numbers.{END, UNKNOWN, RUN, START, RESPONSE, SILENT, READ, PACKED, ACCEPTED, IGNORED, MISSING, DONE, SAME-RUN, OTHER-RUN, loadNumbers, replyNumbers, readNumbers, packNumbers, messageNumbers, comparedNumbers}
+use Rattle.outcome_numbers.specs.Numbers.{END, UNKNOWN, RUN, START, RESPONSE, SILENT, READ, PACKED, ACCEPTED, IGNORED, MISSING, DONE, SAME-RUN, OTHER-RUN, CHECKED, loadNumbers, replyNumbers, readNumbers, packNumbers, messageNumbers, comparedNumbers, checkedNumbers}
 
 -- ---- the numbers by name
 module _ (l : List ℕ) where
@@ -151,3 +152,16 @@ compared-back b (compare.found k false) = refl
 -- whatever bytes the stretches of each have
 pub compared-injective : (b c : ℕ) (x y : compare.Outcome) → comparedNumbers b x ≡ comparedNumbers c y → x ≡ y
 compared-injective b c x y e = sym (compared-back b x) ∙ ap compared-of e ∙ compared-back c y
+
+-- ---- an image checked against a plan
+abbrev checked-of : List ℕ → check.Checked
+checked-of l =
+    if eqb (event l) CHECKED then check.accepted
+    else check.refuses (refusal l) (place l)
+
+checked-back : (x : check.Checked) → checked-of (checkedNumbers x) ≡ x
+checked-back (check.refuses n p) = refl
+checked-back check.accepted = refl
+
+pub checked-injective : (x y : check.Checked) → checkedNumbers x ≡ checkedNumbers y → x ≡ y
+checked-injective x y e = sym (checked-back x) ∙ ap checked-of e ∙ checked-back y
