@@ -38,6 +38,8 @@ static void library_aplx_read(void) { reidhintsje_aplx_read(image, image_length,
 static void plain_aplx_read_(void) { plain_aplx_read(image, image_length, out2, 5 * MIB, outcome2); }
 static void library_compare(void) { reidhintsje_compare(old_plan, old_length, new_plan, new_length, out1, 5 * MIB, outcome1); }
 static void plain_compare_(void) { plain_compare(old_plan, old_length, new_plan, new_length, out2, 5 * MIB, outcome2); }
+static void library_check(void) { reidhintsje_aplx_check(old_plan, old_length, image, image_length, outcome1); }
+static void plain_check_(void) { plain_aplx_check(old_plan, old_length, image, image_length, outcome2); }
 static void library_scp(void) { reidhintsje_scp_answer(map, 132, ours, SIZE, identity, packet, packet_length, reply1, 272, outcome1); }
 static void plain_scp(void) { plain_scp_answer(map, 132, theirs, SIZE, packet, packet_length, reply2, 272, outcome2); }
 
@@ -90,6 +92,8 @@ static void limit_copy(void) { memcpy(theirs + 17 * MIB, theirs + MIB, limit_len
 static void limit_fill(void) { memset(theirs + 17 * MIB, 5, limit_length); }
 static volatile int differs; /* so that the comparison is made */
 static void limit_compare(void) { differs = memcmp(ours + 17 * MIB, theirs + 17 * MIB, limit_length); }
+/* the data of the plan and of the image that is checked, with which both end */
+static void limit_check(void) { differs = memcmp(old_plan + old_length - limit_length, image + image_length - limit_length, limit_length); }
 
 static double least(void (*act)(void), double so_far)
 {
@@ -231,6 +235,69 @@ static void make_plans(uint32_t count, uint32_t old_kind, uint32_t new_kind, uin
     new_length = make_pieces(new_plan, count, new_kind, address, step, length);
 }
 
+/* a plan of so many puts of one length, and an image of it in parts: of this length, those of the last put of another; the last part of a
+ * put is what is left of it. The data stands in the image once, in the plan's order */
+static void make_checked(uint32_t count, uint32_t length, uint32_t part, uint32_t last_part)
+{
+    uint32_t e = 0, data = 0, entries = 1 + (count - 1) * ((length + part - 1) / part) + (length + last_part - 1) / last_part;
+    old_length = make_pieces(old_plan, count, 1, 0x20000000, length, length);
+    limit_length = count * length;
+    for (size_t k = 0; k < limit_length; k++) old_plan[16 + 16 * count + k] = k * 7 + (k >> 8) * 3;
+    for (uint32_t i = 0; i < count; i++) {
+        for (uint32_t done = 0, n, most = i + 1 < count ? part : last_part; done < length; done += n) {
+            uint8_t *p = image + 16 * e;
+            n = length - done < most ? length - done : most;
+            word(p, 2);
+            word(p + 4, 0x20000000 + data);
+            word(p + 8, 16 * entries + data - 16 * e);
+            word(p + 12, n);
+            data += n;
+            e++;
+        }
+    }
+    memset(image + 16 * e, 255, 16);
+    image_length = 16 * entries + limit_length;
+    memcpy(image + 16 * entries, old_plan + 16 + 16 * count, limit_length);
+}
+
+/* both are to refuse the image with 30 at this place */
+static void refused_at(uint64_t place)
+{
+    uint64_t wanted[8] = {REIDHINTSJE_NOT_AS_PLANNED, place};
+    library_check();
+    plain_check_();
+    if (memcmp(outcome1, wanted, sizeof wanted) || memcmp(outcome2, wanted, sizeof wanted)) {
+        printf("a faulty image: %llu at %llu and %llu at %llu, wanted 30 at %llu\n", (unsigned long long)outcome1[0],
+               (unsigned long long)outcome1[1], (unsigned long long)outcome2[0], (unsigned long long)outcome2[1], (unsigned long long)place);
+        failed = 1;
+    }
+}
+
+/* faults of an image of so many entries, each of which both are to refuse: in the words of an entry, in its data, in the end */
+static void refusals(uint64_t entries)
+{
+    for (uint64_t e = 0; e + 1 < entries; e++)
+        for (int k = 0; k < 4; k++) {
+            image[16 * e + 4 * k] ^= 1;
+            refused_at(e);
+            image[16 * e + 4 * k] ^= 1;
+        }
+    image[image_length - 1] ^= 1;
+    refused_at(entries - 2);
+    image[image_length - 1] ^= 1;
+    image[16 * entries] ^= 1;
+    refused_at(0);
+    image[16 * entries] ^= 1;
+    image_length -= 1;
+    refused_at(entries - 2);
+    image_length = 16 * entries - 1;
+    refused_at(entries - 1);
+    image_length = 16 * entries + limit_length;
+    word(image + 16 * (entries - 2), 0xffffffff);
+    refused_at(entries - 2);
+    word(image + 16 * (entries - 2), 2);
+}
+
 static void make_packet(uint32_t command, uint32_t address, uint32_t length)
 {
     word(packet, command | 0x00110000);
@@ -320,6 +387,12 @@ int main(void)
     row("comparing 64 puts of 32 bytes, equal", library_compare, plain_compare_, 0, 0);
     change(512, 4);
     row("the same, 512 stretches", library_compare, plain_compare_, 0, 0);
+    make_checked(64, 64 * KIB, 16 * KIB, 24 * KIB); /* 63 x 4 + 3 parts, and the end: 256 entries */
+    refusals(256);
+    row("checking an image of 4 MiB, 256 entries", library_check, plain_check_, limit_check, "memcmp");
+    make_checked(8, 64, 32, 32);
+    refusals(17);
+    row("checking an image of 512 bytes, 17 entries", library_check, plain_check_, 0, 0);
     make_packet(2, 0x20000000, 256);
     row("SCP READ of 256 bytes", library_scp, plain_scp, 0, 0);
     make_packet(3, 0x20000000, 256);

@@ -17,6 +17,7 @@ uint32_t plain_pack_aplx(const uint8_t *plan, size_t plan_length, uint8_t *outpu
 uint32_t plain_aplx_read(const uint8_t *image, size_t image_length, uint8_t *output, size_t output_length, uint64_t *outcome);
 uint32_t plain_compare(const uint8_t *old_plan, size_t old_length, const uint8_t *new_plan, size_t new_length, uint8_t *output,
                        size_t output_length, uint64_t *outcome);
+uint32_t plain_aplx_check(const uint8_t *plan, size_t plan_length, const uint8_t *image, size_t image_length, uint64_t *outcome);
 
 /* the flood-fill receiver; all zeros is an empty one */
 struct plain_receiver {

@@ -1,7 +1,7 @@
 /* Reidhintsje for C, and for what calls C: link with target/staticlib/libreidhintsje.a, which `rt staticlib reidhintsje` makes.
  *
  * The archive is for x86-64 Linux, which is what the toolchain's compiler writes today: for the bench computer that packs and compares
- * plans, loads and answers packets for an instrument, and not for the board's own cores.
+ * plans, checks images, loads and answers packets for an instrument, and not for the board's own cores.
  *
  * Every call is proved to stay inside the buffers that it is lent, to end, and to answer for any bytes and any numbers. The proof takes
  * for granted what a C caller must see to:
@@ -49,6 +49,7 @@ extern "C" {
 #define REIDHINTSJE_NO_SUCH_BLOCK 27u
 #define REIDHINTSJE_WRONG_SIZE 28u
 #define REIDHINTSJE_NOT_OPEN 29u
+#define REIDHINTSJE_NOT_AS_PLANNED 30u
 
 /* ---- outcomes
  * Every call that takes `outcome` writes all eight of its numbers; those that a case does not name are 0. One layout for all calls:
@@ -57,7 +58,8 @@ extern "C" {
 #define REIDHINTSJE_REFUSAL 0 /* the number of the refusal, which the call returns too; 0 if there is none */
 #define REIDHINTSJE_PLACE 1   /* of a refusal, an end or an unknown command: an APLX entry's index, a serial ROM's offset, a piece's index;
                                  of refusal 10 where an image is packed or read back, the count of its pieces; of refusal 18, how many
-                                 stretches there may be, 512; of MISSING, the lowest missing word ID */
+                                 stretches there may be, 512; of refusal 30 where there is no end word, in how many entries it was looked
+                                 for; of MISSING, the lowest missing word ID */
 #define REIDHINTSJE_EVENT 2   /* what happened: one of the numbers below */
 #define REIDHINTSJE_KIND 3    /* of a run: 1 ARM, 2 Thumb; of a refused comparison: 1 the old plan, 2 the new plan, 0 neither; else 0 */
 #define REIDHINTSJE_ADDRESS 4 /* of a run, as written (bit 0 is set for Thumb); of UNKNOWN, the command word */
@@ -82,6 +84,7 @@ extern "C" {
 #define REIDHINTSJE_DONE 12    /* a Block End whose block is complete: its words stand in the image */
 #define REIDHINTSJE_SAME_RUN 13  /* two plans were compared: both run the same address, as written (bit 0 too), or neither has a run */
 #define REIDHINTSJE_OTHER_RUN 14 /* two plans were compared: they run two addresses, or only one of them has a run */
+#define REIDHINTSJE_CHECKED 15   /* an image was checked against a plan: it follows the plan */
 
 /* KIND of a run */
 #define REIDHINTSJE_NO_KIND 0
@@ -201,6 +204,34 @@ typedef struct {
 
 uint32_t reidhintsje_compare(const uint8_t *old_plan, size_t old_length, const uint8_t *new_plan, size_t new_length, uint8_t *output,
                              size_t output_length, uint64_t *outcome);
+
+/* ---- an image checked against a plan: CHECKED
+ * Checks the APLX image that another firm's packer wrote of a plan. The image's header stands at the slice's front; other bytes may follow
+ * the image. Nothing is written but the outcome. docs/FORMATS.md says what a load of an accepted image does.
+ *
+ * An image is accepted if it keeps these rules, and only then:
+ *   - The entries follow the pieces of the plan, in the plan's order: RCOPY for a put, FILL for a fill, EXEC for a run. Then comes an end
+ *     entry, and before it no other has the end word. There are at most 256 entries, the end entry among them. No entry is an ACOPY, and
+ *     none is left out, added, or joined from two pieces.
+ *   - A put or fill is one entry, or several in a row, each a part of it. The first part begins at the piece's address, each other one
+ *     where the part before it ends, and the last ends where the piece ends. The length of a part is a multiple of 32, and not 0. No part
+ *     goes past the piece's end, and none begins past address 4294967295. Nothing is padded: a piece whose length is not a multiple of 32
+ *     cannot be written.
+ *   - A FILL has the word of its fill. An EXEC has the address of its run as written, bit 0 too. The unused words of EXEC and of the end
+ *     entry may be anything.
+ *   - The data of an RCOPY is that of its part, byte by byte. It begins at (16 x the entry's index + its offset) modulo 2^32, counted from
+ *     the image's first byte: at a multiple of 4, behind the end entry; and it ends inside the slice. Data may stand in any order, with
+ *     other bytes between, and entries may share it, wholly or in part.
+ *
+ * Refusals, in this order:
+ *   - the plan's: those of reidhintsje_plan_read with REIDHINTSJE_TARGET_ANY (2, 3, 5, 9, 11; 12 is not tested); PLACE is the piece's
+ *     index, or 0 for the header;
+ *   - 30 where none of the first 256 whole entries of the slice has the end word; PLACE is their number: image_length / 16, or 256 where
+ *     that is more;
+ *   - 30 at the first entry that, after those before it, is not the part or run that is due, or the end where no piece is due any more;
+ *     PLACE is its index. If the end comes too early, that is the index of the end entry.
+ */
+uint32_t reidhintsje_aplx_check(const uint8_t *plan, size_t plan_length, const uint8_t *image, size_t image_length, uint64_t *outcome);
 
 /* ---- flood fill: ACCEPTED, IGNORED, MISSING or DONE
  * An image is passed along in blocks of words, by four messages, each a call. Messages come taken apart; those with a bad checksum are

@@ -34,6 +34,9 @@ mod linked {
             old_plan: *const u8, old_length: usize, new_plan: *const u8, new_length: usize,
             output: *mut u8, output_length: usize, outcome: *mut u64,
         ) -> u32;
+        pub fn reidhintsje_aplx_check(
+            plan: *const u8, plan_length: usize, image: *const u8, image_length: usize, outcome: *mut u64,
+        ) -> u32;
         pub fn reidhintsje_flood_fill_start(
             receiver: *mut u8, image: *const u8, image_length: usize, last_block: u32, block_size: u32,
             outcome: *mut u64,
@@ -87,6 +90,7 @@ pub enum Event {
     Done,
     SameRun,
     OtherRun,
+    Checked,
 }
 
 /// What code a run enters.
@@ -164,6 +168,7 @@ impl Outcome {
             12 => Event::Done,
             13 => Event::SameRun,
             14 => Event::OtherRun,
+            15 => Event::Checked,
             other => unreachable!("event {other}"),
         }
     }
@@ -285,6 +290,13 @@ pub fn stretches(outcome: Outcome, output: &[u8]) -> impl Iterator<Item = Stretc
     output.chunks_exact(STRETCH_BYTES).take(count).map(|bytes| {
         let word = |i: usize| u32::from_le_bytes(bytes[4 * i..4 * i + 4].try_into().unwrap());
         Stretch { first: word(0), last: word(1), old: u8::try_from(word(2)).ok(), new: u8::try_from(word(3)).ok() }
+    })
+}
+
+/// Checks an APLX image that another firm's packer wrote of a plan: Event::Checked where it follows the plan.
+pub fn aplx_check(plan: &[u8], image: &[u8]) -> Outcome {
+    call(|outcome| unsafe {
+        linked::reidhintsje_aplx_check(plan.as_ptr(), plan.len(), image.as_ptr(), image.len(), outcome)
     })
 }
 
