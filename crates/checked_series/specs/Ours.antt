@@ -12,7 +12,7 @@ use Rattle.plan.specs.Plan.{Piece}
 use Rattle.plan.specs.Plan.Laws.{packable, read-header, read-count}
 use Rattle.plan.specs.Plan.Unit.{read-one}
 use Rattle.plan.specs.Packed.{packs}
-use Rattle.plan.specs.Meaning.{allowed, permit, effects, stretch, Finish, ends, runs, denies, Stopped, finish, meant, meaning}
+use Rattle.plan.specs.Meaning.{effects, stretch, Finish, ends, runs, denies, Stopped, finish, meant, meaning, Permitted}
 use Rattle.plan.specs.Meaning.Laws.{permitted-stopped}
 use Rattle.aplx_pack.specs.Image.{aplxImage, packAplx}
 use Rattle.aplx_pack.specs.Image.Laws.{packed-facts}
@@ -52,20 +52,20 @@ packed-accepted plan room image b e =
     rw (f .is-image) (written-accepted plan (aplxImage ps) b (record { pieces = ps; read = read-one 32 plan (f .are-read); written = w }))
 
 -- every piece of the step's stretch is permitted
-abbrev pub Permitted : Map → List Piece → Step → Type 0
-Permitted map ps s = All (λ p. permit (lookup map) p ≡ allowed) (stretch (drop (s .index) ps))
+abbrev pub PermittedStep : Map → List Piece → Step → Type 0
+PermittedStep map ps s = Permitted (lookup map) (stretch (drop (s .index) ps))
 
 -- a series of permitted stretches: the right side is the plan's effect alone, whatever is put in the place of loads of which nothing is claimed
 pub permitted-effect :
     (s : Software) {plan image : List ℕ} → HasEffect s plan image
     → (w : WrittenFor plan image) (a : ℕ) (map : Map) (memory : List ℕ) (steps : List Step)
-    → Granted (aplx a) map (w .pieces) image memory steps → All (Permitted map (w .pieces)) steps → (unclaimed : ℕ → List ℕ → Left)
+    → Granted (aplx a) map (w .pieces) image memory steps → All (PermittedStep map (w .pieces)) steps → (unclaimed : ℕ → List ℕ → Left)
     → series (loadsFrom s a map w) steps memory
     ≡ series (λ i m. let l = meaning (lookup map) (w .pieces) i m in effectOf a w i (l .finish) (l .memory) (unclaimed i m)) steps memory
 unfolding meaning
 permitted-effect s h w a map memory steps g p unclaimed =
     h .same w a map memory steps g
-    ∙ series-same _ _ (λ m. Unit {0}) (Permitted map (w .pieces))
+    ∙ series-same _ _ (λ m. Unit {0}) (PermittedStep map (w .pieces))
     (λ t m f k.
     let i = t .index in
     let rest = drop i (w .pieces) in

@@ -1,9 +1,11 @@
 -- What a plan means, from its pieces, the map's lookup and memory alone (paper 01, "Plans").
 pub mod Laws
+use mathlib.Core.Path.{_≡_}
 use mathlib.Core.List.{List, [], _∷_}
 use Prim.Native.Nat.{ℕ, suc}
 use lib.ListN.{length, drop}
 use Rattle.word_blocks.specs.Repeat.{filling}
+use Rattle.words.specs.Choice.{All}
 use Rattle.words.specs.Store.{store}
 use Rattle.memory_region.specs.declared.region.Right.the-variants.{Write}
 use Rattle.memory_map.specs.Lookup as map
@@ -29,6 +31,10 @@ unfoldable pub permit : Lookup → Piece → Permit
 permit find (put a d) = ranged (find Write a (length d))
 permit find (fill a n w) = ranged (find Write a n)
 permit find (run a) = entered (runEntry find a)
+
+-- each of these pieces is
+abbrev pub Permitted : Lookup → List Piece → Type 0
+Permitted find = All (λ p. permit find p ≡ allowed)
 
 -- "put stores its data bytes, and fill repeats its word, Little Endian, cut at the length": the bytes that a piece stores
 unfoldable pub storedBy : Piece → List ℕ

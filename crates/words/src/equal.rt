@@ -33,7 +33,7 @@ fn equal_at_once(a: &[u8], b: &[u8], at: usize) -> bool
     all
 }
 
-// Slices of different lengths have not; the bytes are compared up to the first 32 pairs that are not all equal.
+// Whether all bytes are equal; slices of different lengths have not the same bytes. It stops at the first 32 pairs that are not all equal.
 pub fn equal(a: &[u8], b: &[u8]) -> bool
     ensures { λ r. ⌜ r ≡ same (now (a .entry)) (now (b .entry)) ⌝ }
 {

@@ -1,14 +1,14 @@
 -- What the test of one entry says (paper 02, C-20): `isDue` holds exactly where the entry says the first bytes of the piece that is due,
 -- by the rules of a part, or its run, and has its data behind the end entry.
 use mathlib.Core.Path.{_≡_, refl, sym, _∙_}
-use mathlib.Core.Bool.{Bool, true, _&&_}
+use mathlib.Core.Bool.{true}
 use mathlib.Core.List.{List}
 use Prim.Native.Nat.{ℕ, _+_, _%_, _≤_}
 use lib.Dec.{ltb, leb, eqb}
 use lib.ListN.{length, take, drop}
 use lib.Seq.{length-take-le}
 use borrow.Author.Tests.{ltb-true, lt-ltb, leb-true, le-leb, eqb-true, eq-eqb}
-use Rattle.words.specs.Choice.Laws.{both}
+use Rattle.words.specs.Choice.Laws.{both, four-hold}
 use Rattle.words.specs.Bytes.{littleEndianAt}
 use Rattle.words.specs.Equal.{same}
 use Rattle.words.specs.Equal.Laws.{same-equal, equal-same}
@@ -19,13 +19,6 @@ use Rattle.aplx_check.specs.Check.{isPart, hasData, isDue, partLength}
 use Rattle.aplx_check.specs.Refusals.{DueAt}
 
 -- ---- its tests
-pub four-hold : (s t u v : Bool) → (s && t && u && v) ≡ true → (s ≡ true) × (t ≡ true) × (u ≡ true) × (v ≡ true)
-four-hold s t u v e =
-    let x = both (s && t && u) v e in
-    let y = both (s && t) u (x .0) in
-    let z = both s t (y .0) in
-    (z .0, z .1, y .1, x .1)
-
 pub test-part : (a l n : ℕ) → isPart a l n ≡ true → Part a l n
 unfolding isPart
 test-part a l n e =

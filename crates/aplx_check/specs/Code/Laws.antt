@@ -11,6 +11,7 @@ use lib.ListN.{length, take, drop, getD, length-drop}
 use lib.Seq.{length-take-le, getD-drop, drop-cons, drop-drop, drop-at, take-add}
 use borrow.Author.Tests.{eqb-true, eqb-false}
 use Rattle.words.specs.Choice.{if_then_else_}
+use Rattle.words.specs.Choice.Laws.{four-hold}
 use Rattle.words.specs.Bytes.{littleEndianAt}
 use Rattle.plan.specs.Plan.{Piece, put, fill, run, dataOf, filledBy, Read, refused, pieces}
 use Rattle.plan.specs.Code as plan
@@ -20,7 +21,7 @@ use Rattle.aplx_check.specs.declared.due.Due.{Due}
 use Rattle.aplx_check.specs.Parts.{sizeOf, restOf}
 use Rattle.aplx_check.specs.Parts.Laws.{rest-size}
 use Rattle.aplx_check.specs.Check.{refuses, isPart, hasData, isDue, partLength, checkEntries, checkRead}
-use Rattle.aplx_check.specs.Check.Entry.{four-hold, test-part}
+use Rattle.aplx_check.specs.Check.Entry.{test-part}
 use Rattle.aplx_check.specs.Check.Laws.{rest-length, dueFrom, entry-last, entry-more}
 use Rattle.aplx_check.specs.Code.{afterPart}
 

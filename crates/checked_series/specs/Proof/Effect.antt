@@ -13,7 +13,7 @@ use Rattle.memory_region.specs.declared.region.Right.the-variants.{Write}
 use Rattle.memory_map.specs.Lookup.{Lookup, at, placeOf}
 use Rattle.memory_map.specs.Lookup.Laws.{Lawful}
 use Rattle.plan.specs.Plan.{Piece, put, fill, run, addressOf}
-use Rattle.plan.specs.Meaning.{allowed, permit, effect, effects, storedBy}
+use Rattle.plan.specs.Meaning.{allowed, permit, effect, effects, storedBy, Permitted}
 use Rattle.plan.specs.Meaning.Laws.{Stores, permitted-at}
 use Rattle.aplx_check.specs.Parts.{sizeOf, firstPart, restOf, Split, splitAt, partsOf}
 use Rattle.aplx_check.specs.Parts.Laws.{rest-none, rest-rest, parts-stored}
@@ -70,7 +70,7 @@ module _ (find : Lookup) where
 -- ---- its parts
 pub record Alike (find : Lookup) (p : Piece) (qs : List Piece) (m : List ℕ) : Type 0 where
   pub storing : All Stores qs
-  pub permitted : All (λ q. permit find q ≡ allowed) qs
+  pub permitted : Permitted find qs
   pub same : effects find qs m ≡ effect find p m
 
 module _ {find : Lookup} {size : ℕ} (laws : Lawful find size) (p : Piece) (s : Stores p) (q : ℕ) (f : Found find p q) where

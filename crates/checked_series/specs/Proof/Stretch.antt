@@ -13,7 +13,7 @@ use Rattle.memory_map.specs.Lookup.{Lookup}
 use Rattle.memory_map.specs.Lookup.Laws.{Lawful}
 use Rattle.plan.specs.Plan.{Piece, put, fill, run}
 use Rattle.plan.specs.Packable.{Packable}
-use Rattle.plan.specs.Meaning.{allowed, permit, effect, effects, stretch, Finish, ends, runs, denies, finish}
+use Rattle.plan.specs.Meaning.{allowed, permit, effect, effects, stretch, Finish, ends, runs, denies, finish, Permitted}
 use Rattle.plan.specs.Meaning.Laws.{Stores, effects-append, stretch-past, finish-past}
 use Rattle.series.specs.Medium.{Misses}
 use Rattle.series.specs.Proof.Kept.{effects-keep, beside-none}
@@ -114,7 +114,7 @@ module _ {find : Lookup} {size : ℕ} (laws : Lawful find size) (entry : ℕ →
         }
 
   pub same-stretch : (ps : List Piece) (cs : List (List ℕ)) (i t : ℕ) (m : List ℕ) → SplitAll ps cs → Counts ps cs i t → length m ≡ size
-      → All (λ p. permit find p ≡ allowed) (stretch ps) → Same find entry ps (parts ps cs) i t m
+      → Permitted find (stretch ps) → Same find entry ps (parts ps cs) i t m
   unfolding finish stretch
   same-stretch [] cs i t m k c z v = record { memory = refl; stop = let e = rw (add-zero i, add-zero t) at (c 0) in rw e; next = tt }
   same-stretch (p ∷ ps) [] i t m k c z v = absurd k

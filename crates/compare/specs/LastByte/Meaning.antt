@@ -8,7 +8,6 @@ use native.Mathlib.Omega.{arith}
 use lib.Dec.{leb, ltb}
 use lib.ListN.{length, getD}
 use borrow.Author.Tests.{leb-true, ltb-true}
-use Rattle.words.specs.Choice.{All}
 use Rattle.words.specs.Choice.Laws.{both, true-is-false}
 use Rattle.words.specs.Range.Laws.{Inside, Zone, inside, outside, zone}
 use Rattle.word_blocks.specs.Repeat.{filling}
@@ -19,7 +18,7 @@ use Rattle.memory_region.specs.declared.region.Right.the-variants.{Write}
 use Rattle.memory_map.specs.Lookup.{Lookup, Found, at, refused}
 use Rattle.memory_map.specs.Lookup.Laws.{Lawful}
 use Rattle.plan.specs.Plan.{Piece, put, fill, run, addressOf}
-use Rattle.plan.specs.Meaning.{allowed, ranged, permit, storeAt, effect, effects, storedBy}
+use Rattle.plan.specs.Meaning.{allowed, ranged, permit, storeAt, effect, effects, storedBy, Permitted}
 use Rattle.compare.specs.LastByte.{endOf, covers, after, afterAll}
 use Rattle.compare.specs.LastByte.Laws.{covers-at, after-covered, after-other, after-run}
 
@@ -66,7 +65,7 @@ module _ (find : Lookup) (n : ℕ) (laws : Lawful find n) (x q : ℕ) (here : fi
       ranged-byte (fill a k w) a (filling k w) m (find Write a k) refl refl l (ap (find Write a) e) h
   effect-byte (run a) m l h = (sym (after-run a x (getD m q 0)), l)
 
-  pub effects-byte : (ps : List Piece) (m : List ℕ) → length m ≡ n → All (λ p. permit find p ≡ allowed) ps
+  pub effects-byte : (ps : List Piece) (m : List ℕ) → length m ≡ n → Permitted find ps
       → getD (effects find ps m) q 0 ≡ afterAll ps x (getD m q 0)
   unfolding effects afterAll
   effects-byte [] m l h = refl

@@ -6,7 +6,6 @@ use Prim.Native.Nat.{ℕ, suc, _+_, _-_, _≤_}
 use native.Mathlib.Omega.{arith}
 use lib.ListN.{length, getD}
 use lib.Seq.{ext-getD}
-use Rattle.words.specs.Choice.{All}
 use Rattle.words.specs.Range.Laws.{Zone, inside, outside, zone}
 use Rattle.words.specs.Store.{store}
 use Rattle.words.specs.Store.Laws.{length-store, element-outside}
@@ -16,7 +15,7 @@ use Rattle.memory_region.specs.declared.region.Right.the-variants.{Write}
 use Rattle.memory_map.specs.Lookup.{Lookup, Found, at, refused, lookup}
 use Rattle.memory_map.specs.Lookup.Laws.{Lawful, lawful}
 use Rattle.plan.specs.Plan.{Piece, put, fill, run}
-use Rattle.plan.specs.Meaning.{allowed, ranged, permit, storeAt, effect, effects, stretch, Finish, ends, runs, denies, Stopped, finish, meant, meaning}
+use Rattle.plan.specs.Meaning.{allowed, ranged, permit, storeAt, effect, effects, stretch, Finish, ends, runs, denies, Stopped, finish, meant, meaning, Permitted}
 use Rattle.plan.specs.Meaning.Laws.{stopped-first, stopped-permitted}
 use Rattle.compare.specs.LastByte.{lastByte}
 use Rattle.compare.specs.LastByte.Laws.{not-covered}
@@ -26,10 +25,7 @@ use Rattle.compare_claims.specs.Claims.{namedBy, AsMeant}
 use Rattle.compare_claims.specs.Proof.Leaves.{leaves-after, same-after}
 use Rattle.compare.specs.Reading.Bytes.{AreBytes}
 
--- every piece of the stretch is permitted, and the memory is what they leave in order
-abbrev Permitted : Lookup → List Piece → Type 0
-Permitted find = All (λ p. permit find p ≡ allowed)
-
+-- every piece of a stretch that stopped is permitted, and the memory is what they leave in order
 finished : (f : Finish) (m new : List ℕ) → Stopped (meant f m new .finish) → Stopped f × (meant f m new .memory ≡ new)
 finished (ends i) m new s = (tt, refl)
 finished (runs a i) m new s = (tt, refl)

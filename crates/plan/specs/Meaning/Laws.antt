@@ -14,7 +14,7 @@ use Rattle.memory_map.specs.Lookup.Laws.{Lawful}
 use Rattle.memory_map.specs.Entry as entry
 use Rattle.memory_map.specs.Entry.{legal, kindAt, runEntry}
 use Rattle.plan.specs.Plan.{Piece, put, fill, run}
-use Rattle.plan.specs.Meaning.{Permit, allowed, denied, ranged, entered, permit, effect, effects, stretch, Finish, ends, runs, denies, Stopped, or-deny, finish, meaning}
+use Rattle.plan.specs.Meaning.{Permit, allowed, denied, ranged, entered, permit, effect, effects, stretch, Finish, ends, runs, denies, Stopped, or-deny, finish, meaning, Permitted}
 
 -- a put or a fill
 abbrev pub Stores : Piece → Type 0
@@ -47,7 +47,7 @@ stopped-first (denied y) i x s = absurd s
 
 module _ (find : Lookup) where
   -- all are
-  pub stopped-permitted : (ps : List Piece) (i : ℕ) → Stopped (finish find (stretch ps) i) → All (λ p. permit find p ≡ allowed) (stretch ps)
+  pub stopped-permitted : (ps : List Piece) (i : ℕ) → Stopped (finish find (stretch ps) i) → Permitted find (stretch ps)
   unfolding finish stretch
   stopped-permitted [] i s = tt
   stopped-permitted (put a d ∷ ps) i s =
@@ -59,14 +59,14 @@ module _ (find : Lookup) where
   stopped-permitted (run a ∷ ps) i s = (stopped-first (permit find (run a)) i (runs a i) s .0, tt)
 
   -- and where all are, none is denied
-  pub permitted-stopped : (ps : List Piece) (i : ℕ) → All (λ p. permit find p ≡ allowed) (stretch ps) → Stopped (finish find (stretch ps) i)
+  pub permitted-stopped : (ps : List Piece) (i : ℕ) → Permitted find (stretch ps) → Stopped (finish find (stretch ps) i)
   unfolding finish stretch
   permitted-stopped [] i h = tt
   permitted-stopped (put a d ∷ ps) i h = rw (h .0) (permitted-stopped ps (suc i) (h .1))
   permitted-stopped (fill a n w ∷ ps) i h = rw (h .0) (permitted-stopped ps (suc i) (h .1))
   permitted-stopped (run a ∷ ps) i h = rw (h .0) tt
 
-  pub finish-past : (qs rs : List Piece) (i : ℕ) → All Stores qs → All (λ q. permit find q ≡ allowed) qs → finish find (qs ++ rs) i ≡ finish find rs (i + length qs)
+  pub finish-past : (qs rs : List Piece) (i : ℕ) → All Stores qs → Permitted find qs → finish find (qs ++ rs) i ≡ finish find rs (i + length qs)
   unfolding finish
   finish-past [] rs i s h = rw add-zero
   finish-past (put a d ∷ qs) rs i s h = rw (h .0, finish-past qs rs (suc i) (s .1) (h .1), add-suc, suc-add)
@@ -79,7 +79,7 @@ module _ (find : Lookup) where
   finish-denied (fill a n w) rs i h = rw h
   finish-denied (run a) rs i h = rw h
 
-  module _ (ps : List Piece) (i : ℕ) (m : List ℕ) (qs : List Piece) (s : All Stores qs) (h : All (λ q. permit find q ≡ allowed) qs) where
+  module _ (ps : List Piece) (i : ℕ) (m : List ℕ) (qs : List Piece) (s : All Stores qs) (h : Permitted find qs) where
     -- "Without a run it reports the end."
     pub means-end : drop i ps ≡ qs ++ [] → meaning find ps i m ≡ record { finish = ends (i + length qs); memory = effects find qs m }
     unfolding meaning finish stretch effects

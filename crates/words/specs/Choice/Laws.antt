@@ -44,6 +44,13 @@ pub both : (s t : Bool) → (s && t) ≡ true → (s ≡ true) × (t ≡ true)
 both true t e = (refl, e)
 both false t e = true-is-false (sym e)
 
+pub four-hold : (s t u v : Bool) → (s && t && u && v) ≡ true → (s ≡ true) × (t ≡ true) × (u ≡ true) × (v ≡ true)
+four-hold s t u v e =
+    let x = both (s && t && u) v e in
+    let y = both (s && t) u (x .0) in
+    let z = both s t (y .0) in
+    (z .0, z .1, y .1, x .1)
+
 -- a choice that gives z
 module _ {A : Type 0} {x y z : A} where
   -- where its first arm does not
