@@ -1,13 +1,10 @@
 -- What the values of the code's enums and structs say, in the terms of the definitions.
 pub mod Injective
 pub mod Laws
-use mathlib.Core.Path.{_≡_}
-use mathlib.Core.List.{List}
-use Prim.Native.Nat.{ℕ, _+_, _≤_}
+use Prim.Native.Nat.{ℕ, _+_}
 use lib.Dec.{eqb}
-use lib.ListN.{length}
 use Rattle.words.specs.Choice.{if_then_else_}
-use Rattle.plan.specs.Packed.{planPieces, Accepted}
+use Rattle.plan.specs.Packed.{Accepted}
 use Rattle.aplx_check.specs.declared.check.Checked as code-checked
 use Rattle.aplx_check.specs.declared.check.Checked.the-variants as answer
 use Rattle.aplx_check.specs.declared.end.End as code-end
@@ -22,12 +19,6 @@ checkedIs (answer.Refused r) = refuses (r .number) (r .place)
 abbrev pub endIs : code-end.End → End
 endIs (ends.At e) = at e
 endIs ends.None = none
-
--- a plan that was read, of n pieces
-pub record PlanRead (plan : List ℕ) (n : ℕ) : Type 0 where
-  pub is-read : Accepted 1 plan
-  pub count : n ≡ length (planPieces 1 plan)
-  pub few : n ≤ 64
 
 -- what is due behind a part of so many bytes, of a piece of so many
 abbrev pub afterPart : Due → ℕ → ℕ → Due

@@ -1,9 +1,11 @@
 // The check of an image against a plan.
 ghost use mathlib.Core.Path.{_≡_};
 ghost use Prim.Native.Nat.{suc, _*_, _<_};
+ghost use Rattle.plan.specs.Plan.{readPlan};
 ghost use Rattle.plan.specs.Packed.{planPieces};
+ghost use Rattle.plan.specs.Code.Packer.{ReadAs};
 ghost use Rattle.aplx_check.specs.Check.{refuses, checkEntries, checkPieces, check};
-ghost use Rattle.aplx_check.specs.Code.{PlanRead, checkedIs};
+ghost use Rattle.aplx_check.specs.Code.{checkedIs};
 use crate::due::Due;
 use crate::due::after_part;
 use crate::due::is_due;
@@ -38,7 +40,7 @@ fn refused_at(entry: u32) -> Checked
 
 // The entries before the end entry, against the pieces of a plan that was read.
 fn check_entries(plan: &[u8], image: &[u8], count: u32, end: u32) -> Checked
-    requires { ⌜ PlanRead (now plan) count × (end < 256) ⌝ }
+    requires { ⌜ ReadAs (readPlan 1 (now plan)) count × (end < 256) ⌝ }
     ensures { λ r. ⌜ checkedIs r ≡ checkEntries (now (image .entry)) (16 * suc end) end 0 (planPieces 1 (now (plan .entry))) ⌝ }
 {
     let behind = 16 * (end as usize + 1);
@@ -64,7 +66,7 @@ fn check_entries(plan: &[u8], image: &[u8], count: u32, end: u32) -> Checked
 
 // The image, against the pieces of a plan that was read.
 fn check_pieces(plan: &[u8], image: &[u8], count: u32) -> Checked
-    requires { ⌜ PlanRead (now plan) count ⌝ }
+    requires { ⌜ ReadAs (readPlan 1 (now plan)) count ⌝ }
     ensures { λ r. ⌜ checkedIs r ≡ checkPieces (now (image .entry)) (planPieces 1 (now (plan .entry))) ⌝ }
 {
     let whole = whole_entries(image);

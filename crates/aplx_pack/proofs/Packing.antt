@@ -4,20 +4,21 @@ use mathlib.Core.List.{List, _++_}
 use Prim.Native.Nat.{ℕ, suc, _+_, _-_, _*_, _≤_}
 use native.Mathlib.Omega.{arith}
 use lib.ListN.{length, take, drop, length-drop, take-append-drop, drop-of-length-le}
-use lib.Seq.{length-take-le, take-add, take-at, take-length}
+use lib.Seq.{length-take-le, take-length}
 use Rattle.words.specs.Four.{fourBytes}
 use Rattle.words.specs.Four.Laws.{length-fourBytes}
 use Rattle.words.specs.Store.{store}
 use Rattle.words.specs.Store.Laws.{store-adjoining}
 use Rattle.words.specs.Store.Growing.{front-grows}
 use Rattle.plan.specs.declared.piece.Piece as code-piece
-use Rattle.plan.specs.Plan.{Piece, dataOf, putBytes, datas}
+use Rattle.plan.specs.Plan.{Piece, putBytes, datas}
 use Rattle.plan.specs.Plan.Datas.{length-datas}
 use Rattle.plan.specs.Code.{pieceIs}
 use Rattle.plan.specs.Code.Laws.{Found}
 use Rattle.plan.specs.Code.Rows.{dataStart, earlier, Written}
 use Rattle.aplx_pack.specs.Image.{entryOf, entries, aplxImage}
-use Rattle.aplx_pack.specs.Image.Laws.{length-entryOf, length-entries, length-aplxImage, drop-entries}
+use Rattle.aplx_pack.specs.Image.Laws.{length-entries, length-aplxImage, drop-entries}
+use Rattle.aplx_pack.specs.Image.Entry.{entry-through}
 
 -- the entries before piece i
 abbrev pub front : List Piece → ℕ → List ℕ
@@ -34,11 +35,10 @@ front-through {s} {ps} {i} {p} f place h =
     let k = earlier ps i in
     let qs = drop (suc i) ps in
     let off = 16 * suc (suc (length qs)) + (0 + k) in
-    let z : 16 * (i + 1) ≡ 16 * i + 16 = omega arith in
     let l : length ps - i ≡ suc (length qs) = sym (length-drop i ps) ∙ ap length (f .from) in
     let o : off ≡ place - 16 * i = omega arith in
-    rw (z, take-add (16 * i) 16 (entries 0 ps), drop-entries ps i 0 (omega arith), f .from, ← o)
-    (ap (λ (l : List ℕ). front ps i ++ l) (take-at (entryOf (pieceIs s p) off) (entries (0 + k + length (dataOf (pieceIs s p))) qs) 16 (length-entryOf (pieceIs s p) off)))
+    let e = drop-entries ps i 0 (omega arith) ∙ ap (entries (0 + k)) (f .from) in
+    rw (← o) (entry-through (entries 0 ps) i (pieceIs s p) off _ e)
 
 -- the place behind the data
 pub image-end : (ps : List Piece) → length (aplxImage ps) ≡ dataStart ps + putBytes ps

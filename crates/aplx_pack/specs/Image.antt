@@ -1,5 +1,6 @@
 -- The APLX image of a list of pieces (paper 01, "Plans", last paragraph), and what packing a plan gives.
 pub mod Laws
+pub mod Entry
 pub mod Carried
 use mathlib.Core.List.{List, [], _∷_, _++_}
 use Prim.Native.Nat.{ℕ, suc, _+_, _*_}

@@ -34,6 +34,11 @@ abbrev pub outcomeOf : Packed → Outcome
 outcomeOf (refuses x i) = refusal x i
 outcomeOf (packs image) = sized (length image)
 
+-- the length that is written for what was read; what is refused has none
+abbrev pub writtenLength : (List Piece → List ℕ) → Read → ℕ
+writtenLength bytes (refused x i) = 0
+writtenLength bytes (pieces ps) = length (bytes ps)
+
 -- the pieces of a plan that was read
 abbrev pub piecesIn : Read → List Piece
 piecesIn (refused x i) = []

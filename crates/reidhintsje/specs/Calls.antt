@@ -14,12 +14,13 @@ use Rattle.srom.specs.Load.{sromLoad}
 use Rattle.aplx.specs.Load.{aplxLoad}
 use Rattle.scp.specs.declared.answer.Identity.{Identity}
 use Rattle.scp.specs.Answer.{Answered, scpAnswer}
-use Rattle.plan.specs.Plan.{Piece, Read, refused, pieces, readPlan}
+use Rattle.plan.specs.Plan.{Piece, Read, readPlan}
 use Rattle.plan.specs.Code as read
 use Rattle.plan.specs.Packed as packed
-use Rattle.plan.specs.Packed.{Packed, outputAfter}
+use Rattle.plan.specs.Packed.{Packed, outputAfter, writtenLength}
 use Rattle.srom_pack.specs.Image.{sromImage, packSrom}
 use Rattle.aplx_pack.specs.Image.{aplxImage, packAplx}
+use Rattle.aplx_share.specs.SharedImage.{sharedImage, packShared}
 use Rattle.aplx_read.specs.PlanBytes.{planBytes}
 use Rattle.aplx_read.specs.ReadBack.{readImage, readBack}
 use Rattle.aplx_check.specs.Check.{check}
@@ -91,11 +92,6 @@ unitAt t = if eqb t 0 then 32 else if eqb t 1 then 4 else 1
 abbrev pub readCall : List ℕ → ℕ → List ℕ
 readCall plan target = readNumbers (read.outcomeOf (readPlan (unitAt target) plan))
 
--- the length that is written for pieces; what is refused has none
-abbrev pub writtenLength : (List Piece → List ℕ) → Read → ℕ
-writtenLength bytes (refused n i) = 0
-writtenLength bytes (pieces ps) = length (bytes ps)
-
 -- the numbers of the outcome, and the output afterwards
 pub record Packing : Type 0 where
   pub numbers : List ℕ
@@ -110,6 +106,10 @@ sromPackCall plan output = packing sromImage (readPlan 4 plan) (packSrom plan (l
 
 abbrev pub aplxPackCall : List ℕ → List ℕ → Packing
 aplxPackCall plan output = packing aplxImage (readPlan 32 plan) (packAplx plan (length output)) output
+
+-- with one copy of equal put data
+abbrev pub aplxSharedPackCall : List ℕ → List ℕ → Packing
+aplxSharedPackCall plan output = packing sharedImage (readPlan 32 plan) (packShared plan (length output)) output
 
 -- an image read back: the plan is what is written
 abbrev pub aplxReadCall : List ℕ → List ℕ → Packing

@@ -7,7 +7,7 @@ use lib.ListN.{take, replicate}
 use Rattle.words.specs.Four.{fourBytes}
 use Rattle.words.specs.Store.{store}
 use Rattle.srom_pack.specs.Open as srom-group
-use Rattle.aplx_pack.specs.Open as aplx-group
+use Rattle.aplx_share.specs.Open as aplx-group
 use Rattle.aplx_read.specs.Open as read-group
 use Rattle.aplx_check.specs.Open as check-group
 use Rattle.plan.specs.Open as plan-group
@@ -15,7 +15,7 @@ use Rattle.compare.specs.Reading.{comparedAt, comparedPieces, readCompared}
 use Rattle.compare.specs.Compare.{finds, stretchBytes, comparedBelow, compared}
 use Rattle.map_table.specs.Table.{addition, tableAfter}
 use Rattle.map_table.specs.Open as table-group
-use Rattle.reidhintsje.specs.Calls.{verdictNumber, soundCall, identityOf, unitAt, sromPackCall, aplxPackCall, aplxReadCall, aplxCheckCall, comparing, compareCall}
+use Rattle.reidhintsje.specs.Calls.{verdictNumber, soundCall, identityOf, unitAt, sromPackCall, aplxPackCall, aplxSharedPackCall, aplxReadCall, aplxCheckCall, comparing, compareCall}
 
 -- ---- maps: the empty one, and one region of 256 bytes
 zeros : List ℕ
@@ -66,7 +66,23 @@ unfolding fill-plan srom-group.image aplx-group.image
 packings =
     record { aplx-none = refl; aplx-less = refl; aplx-whole = refl; srom-none = refl; srom-whole = refl; cut-short = refl }
 
--- its image read back, into one byte too few and into enough; and an image without an end
+-- two puts of the same 32 bytes, packed with one copy of them: into no room, into one byte too few, and into enough, which is too few without
+-- sharing
+twice-plan : List ℕ
+twice-plan = fourBytes 2 16 48 32 ++ (fourBytes 1 256 32 0 ++ (fourBytes 1 512 32 0 ++ replicate 32 5))
+
+record SharedPackings : Type 0 where
+  pub none : aplxSharedPackCall twice-plan [] .numbers ≡ 10 ∷ 2 ∷ 0 ∷ 0 ∷ 0 ∷ 0 ∷ 0 ∷ 80 ∷ []
+  pub less : aplxSharedPackCall twice-plan (replicate 79 9) ≡ record { numbers = 10 ∷ 2 ∷ 0 ∷ 0 ∷ 0 ∷ 0 ∷ 0 ∷ 80 ∷ []; output = replicate 79 9 }
+  pub whole : aplxSharedPackCall twice-plan (replicate 80 9) .numbers ≡ 0 ∷ 0 ∷ 8 ∷ 0 ∷ 0 ∷ 0 ∷ 0 ∷ 80 ∷ []
+  pub not-shared : aplxPackCall twice-plan (replicate 80 9) .numbers ≡ 10 ∷ 2 ∷ 0 ∷ 0 ∷ 0 ∷ 0 ∷ 0 ∷ 112 ∷ []
+  pub cut-short : aplxSharedPackCall (take 79 twice-plan) [] .numbers ≡ 2 ∷ 0 ∷ 0 ∷ 0 ∷ 0 ∷ 0 ∷ 0 ∷ 0 ∷ []
+
+shared-packings : SharedPackings
+unfolding twice-plan aplx-group.image
+shared-packings = record { none = refl; less = refl; whole = refl; not-shared = refl; cut-short = refl }
+
+-- the image of the fill read back, into one byte too few and into enough; and an image without an end
 fill-image : List ℕ
 fill-image = fourBytes 3 256 32 7 ++ fourBytes 0xffffffff 0 0 0
 

@@ -1,6 +1,7 @@
 // The reader of plans, the packers, the reader of APLX images, and their check against a plan.
 ghost use mathlib.Core.Path.{_≡_};
 ghost use Rattle.plan.specs.Plan.{readPlan};
+ghost use Rattle.plan.specs.Packed.{writtenLength};
 ghost use Rattle.plan.specs.Code.{unitOf};
 ghost use Rattle.plan.specs.Code.Packer as packer;
 ghost use Rattle.srom_pack.specs.Image.{sromImage};
@@ -9,7 +10,7 @@ ghost use Rattle.aplx_read.specs.PlanBytes.{planBytes};
 ghost use Rattle.aplx_read.specs.ReadBack.{readImage};
 ghost use Rattle.outcome_numbers.specs.Numbers.{first};
 ghost use Rattle.outcome_numbers.specs.Numbers.Laws.{tooSmall};
-ghost use Rattle.reidhintsje.specs.Calls.{unitAt, readCall, writtenLength, sromPackCall, aplxPackCall, aplxReadCall, aplxCheckCall};
+ghost use Rattle.reidhintsje.specs.Calls.{unitAt, readCall, sromPackCall, aplxPackCall, aplxSharedPackCall, aplxReadCall, aplxCheckCall};
 use outcome::answer::OUTPUT_TOO_SMALL;
 use outcome_numbers::numbers::checked_parts;
 use outcome_numbers::numbers::packed_parts;
@@ -115,6 +116,26 @@ pub extern "C" fn reidhintsje_pack_aplx(
     let answer = aplx_pack::pack::pack(plan, output);
     if too_small(answer) {
         let image = aplx_length(plan);
+        return put(outcome, packed_parts(answer, image));
+    }
+    put(outcome, packed_parts(answer, 0))
+}
+
+// Packs a plan as an APLX image that keeps one copy of equal put data, at the output's front. A plan whose image does not fit is read once
+// more for the image's length.
+#[no_mangle]
+pub extern "C" fn reidhintsje_pack_aplx_shared(
+    plan: &[u8],
+    output: &mut [u8],
+    outcome: &mut [u64; 8],
+) -> u32
+    ensures { λ r. ⌜ r ≡ first (now (outcome .exit)) ⌝ }
+    ensures { λ _. ⌜ now (outcome .exit) ≡ aplxSharedPackCall (now (plan .entry)) (now (output .entry)) .numbers ⌝ }
+    ensures { λ _. ⌜ now (output .exit) ≡ aplxSharedPackCall (now (plan .entry)) (now (output .entry)) .output ⌝ }
+{
+    let answer = aplx_share::pack::pack(plan, output);
+    if too_small(answer) {
+        let image = aplx_share::pack::image_length(plan) as u64;
         return put(outcome, packed_parts(answer, image));
     }
     put(outcome, packed_parts(answer, 0))

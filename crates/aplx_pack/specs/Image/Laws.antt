@@ -1,11 +1,11 @@
--- Laws of the APLX image: its length, what stands at a piece's entry and where its data lies, and which plans are packed.
-use mathlib.Core.Path.{_≡_, refl, sym}
+-- Laws of the APLX image: its length, what stands at a piece's entry, and which plans are packed.
+use mathlib.Core.Path.{_≡_, refl}
 use mathlib.Core.List.{List, [], _∷_, _++_, append-assoc}
 use Prim.Native.Nat.{ℕ, zero, suc, _+_, _*_, _≤_}
 use native.Mathlib.Nat.{add-zero, add-assoc}
 use native.Mathlib.Omega.{arith}
 use lib.ListN.{length, take, drop, length-append}
-use lib.Seq.{take-at, drop-at, drop-drop, drop-append-le}
+use lib.Seq.{drop-append-le, drop-append-add}
 use Rattle.words.specs.Four.Laws.{length-fourBytes}
 use Rattle.plan.specs.Plan.{Piece, put, fill, run, dataOf, putBytes, datas, pieces, readPlan}
 use Rattle.plan.specs.Plan.Datas.{length-datas, datas-split}
@@ -19,6 +19,12 @@ unfolding entryOf
 length-entryOf (put a d) off = rw length-fourBytes
 length-entryOf (fill a n w) off = rw length-fourBytes
 length-entryOf (run a) off = rw length-fourBytes
+
+-- behind an entry and i more
+pub drop-entry : (p : Piece) (off i : ℕ) (rest : List ℕ) → drop (16 * suc i) (entryOf p off ++ rest) ≡ drop (16 * i) rest
+drop-entry p off i rest =
+    let z : 16 * suc i ≡ length (entryOf p off) + 16 * i = omega (arith, length-entryOf p off) in
+    rw z (drop-append-add (entryOf p off) rest (16 * i))
 
 pub length-entries : (k : ℕ) (ps : List Piece) → length (entries k ps) ≡ 16 * suc (length ps)
 unfolding entries
@@ -46,26 +52,14 @@ pub image-tail : (ps : List Piece) → aplxImage ps ≡ tail [] ps
 unfolding aplxImage
 image-tail ps = refl
 
--- the data of a put lies as far behind its entry's start as the entry says
-pub put-data : (d : List ℕ) (a : ℕ) (b : List ℕ) (ps : List Piece)
-    → take (length b) (drop (16 * suc (suc (length ps)) + length d) (tail d (put a b ∷ ps))) ≡ b
-unfolding datas
-put-data d a b ps =
-    let f = entries (length d) (put a b ∷ ps) ++ d in
-    let l : length f ≡ 16 * suc (suc (length ps)) + length d = rw (length-append, length-entries) in
-    let e : tail d (put a b ∷ ps) ≡ f ++ (b ++ datas ps) = sym (append-assoc (entries (length d) (put a b ∷ ps)) d (b ++ datas ps)) in
-    rw (e, drop-at f (b ++ datas ps) _ l) (take-at b (datas ps) (length b) refl)
-
 -- from the entry of piece i on; at the count it is the end entry
 pub drop-entries : (ps : List Piece) (i k : ℕ) → i ≤ length ps → drop (16 * i) (entries k ps) ≡ entries (k + length (datas (take i ps))) (drop i ps)
 unfolding entries datas
 drop-entries ps zero k h = rw (add-zero k)
 drop-entries [] (suc i) k h = absurd (omega arith)
 drop-entries (p ∷ ps) (suc i) k h =
-    let off = 16 * suc (suc (length ps)) + k in
-    let z : 16 * suc i ≡ 16 + 16 * i = omega arith in
-    let s : drop 16 (entries k (p ∷ ps)) ≡ entries (k + length (dataOf p)) ps = drop-at (entryOf p off) (entries (k + length (dataOf p)) ps) 16 (length-entryOf p off) in
-    rw (z, ← drop-drop (16 * i) 16 (entries k (p ∷ ps)), s, drop-entries ps i (k + length (dataOf p)) (omega arith), length-append, add-assoc)
+    let j = k + length (dataOf p) in
+    rw (drop-entry p (16 * suc (suc (length ps)) + k) i (entries j ps), drop-entries ps i j (omega arith), length-append, add-assoc)
 
 -- what stands at the entry of piece i: the entries of the pieces from i on, then all the data
 pub at-entry : (ps : List Piece) (i : ℕ) (d : List ℕ) → i ≤ length ps → drop (16 * i) (tail d ps) ≡ tail (d ++ datas (take i ps)) (drop i ps)

@@ -17,6 +17,12 @@ Writable unit s (Put a o n) = (o + n ≤ length s) × (n % unit ≡ 0) × (n ≤
 Writable unit s (Fill a n w) = (n % unit ≡ 0) × (n ≤ 65536)
 Writable unit s (Run a) = Unit {0}
 
+-- what a reader gave is so many pieces
+pub record ReadAs (t : Read) (count : ℕ) : Type 0 where
+  pub accepted : t ≡ pieces (piecesIn t)
+  pub counts : count ≡ length (piecesIn t)
+  pub few : count ≤ 64
+
 -- what a reader gave is so many pieces, and n bytes hold the image of them
 pub record ImageFits (image : List Piece → List ℕ) (t : Read) (count n : ℕ) : Type 0 where
   pub accepted : t ≡ pieces (piecesIn t)

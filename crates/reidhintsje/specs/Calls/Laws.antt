@@ -1,20 +1,17 @@
 -- Laws of a call: what it returns and leaves, out of what the library below it answers and the parts that were written.
-use mathlib.Core.Path.{_≡_, refl, ap, sym, _∙_}
+use mathlib.Core.Path.{_≡_, ap, sym, _∙_}
 use mathlib.Core.Bool.{false}
 use mathlib.Core.List.{List}
 use Prim.Native.Nat.{ℕ}
-use native.Mathlib.Omega.{arith}
 use Rattle.outcome.specs.Outcome as load
 use Rattle.outcome.specs.Outcome.{Loaded}
 use Rattle.scp.specs.Answer.{Reply, Answered}
-use Rattle.plan.specs.Plan.{Piece, Read, refused, pieces}
-use Rattle.plan.specs.Code.{refuses, outcomeOf}
 use Rattle.plan.specs.Packed.{Outcome}
 use Rattle.outcome_numbers.specs.declared.numbers.Parts.{Parts}
 use Rattle.flood_fill.specs.Answer.{Answer}
 use Rattle.outcome_numbers.specs.Numbers.{numbers, first, loadParts, replyParts, packedParts, packNumbers, messageParts, messageNumbers}
 use Rattle.outcome_numbers.specs.Numbers.Laws.{tooSmall, other-parts}
-use Rattle.reidhintsje.specs.Calls.{loading, answering, writtenLength}
+use Rattle.reidhintsje.specs.Calls.{loading, answering}
 
 -- a call that returned n and left the numbers l, written from the parts x
 module _ {n : ℕ} {l : List ℕ} {x : Parts} (f : (n ≡ x .refusal) × (l ≡ numbers x)) where
@@ -46,8 +43,3 @@ module _ {n : ℕ} {l : List ℕ} {x : Parts} (f : (n ≡ x .refusal) × (l ≡ 
   -- of a flood-fill message
   pub message-call : {a b : Answer} → x ≡ messageParts a → a ≡ b → (n ≡ first l) × (l ≡ messageNumbers b)
   message-call p e = put-call (p ∙ ap messageParts e)
-
--- a refused plan has no image
-pub imageless : (image : List Piece → List ℕ) (r : Read) {n i : ℕ} → outcomeOf r ≡ refuses n i → 0 ≡ writtenLength image r
-imageless image (refused x j) e = refl
-imageless image (pieces ps) e = let z : _≡_ {A = ℕ} 0 1 = cc in absurd (omega arith)

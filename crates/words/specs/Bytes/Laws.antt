@@ -3,8 +3,9 @@ use mathlib.Core.Path.{_≡_, refl, ap, sym, _∙_}
 use mathlib.Core.Bool.{true}
 use mathlib.Core.List.{List, [], _∷_, _++_, reverse, reverse-reverse}
 use Prim.Native.Nat.{ℕ, zero, suc, _+_, _*_, _-_, _/_, _%_, _^_, _≤_, _<_}
-use native.Mathlib.Nat.{add-zero, pow-suc, div-div-eq-div-mul}
+use native.Mathlib.Nat.{add-zero, pow-suc, one-le-pow, div-div-eq-div-mul}
 use native.Mathlib.Omega.{arith}
+use lib.Arith.{mod-mul}
 use lib.Dec.{ltb}
 use lib.ListN.{length, take, drop, getD, length-append, length-drop, length-reverse, drop-of-length-le}
 use lib.Seq.{drop-drop, drop-append-add, getD-drop, take-all, take-at}
@@ -53,6 +54,17 @@ pub from-littleEndian : (k n : ℕ) → n < 256 ^ k → fromLittleEndian (little
 unfolding littleEndian fromLittleEndian
 from-littleEndian zero n h = omega arith
 from-littleEndian (suc k) n h = let e = from-littleEndian k (n / 256) (quotient-below k n h) in omega arith
+
+-- of a number the bytes are those of its remainder
+pub littleEndian-modulo : (k n : ℕ) → littleEndian k (n % 256 ^ k) ≡ littleEndian k n
+unfolding littleEndian
+littleEndian-modulo zero n = refl
+littleEndian-modulo (suc k) n =
+    let m = 256 ^ k in
+    let e : n % 256 ^ suc k ≡ n / 256 % m * 256 + n % 256 = ap (λ (j : ℕ). n % j) (pow-suc 256 k) ∙ mod-mul n (one-le-pow k 256 (omega arith)) (omega arith) in
+    let x : (n / 256 % m * 256 + n % 256) % 256 ≡ n % 256 = omega arith in
+    let y : (n / 256 % m * 256 + n % 256) / 256 ≡ n / 256 % m = omega arith in
+    rw (e, x, y, littleEndian-modulo k (n / 256))
 
 pub littleEndian-from : (bs : List ℕ) → Bytes bs → littleEndian (length bs) (fromLittleEndian bs) ≡ bs
 unfolding littleEndian fromLittleEndian

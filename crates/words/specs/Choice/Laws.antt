@@ -1,5 +1,5 @@
 -- Laws of tests and of properties of every element.
-use mathlib.Core.Path.{_≡_, refl, sym}
+use mathlib.Core.Path.{_≡_, refl, sym, subst}
 use mathlib.Core.Bool.{Bool, true, false, _&&_}
 use mathlib.Core.List.{List, [], _∷_, _++_, reverse, reverseAux}
 use Prim.Native.Nat.{ℕ, zero, suc, _≤_}
@@ -103,6 +103,10 @@ pub all-drop : {A : Type 0} (P : A → Type 0) (n : ℕ) (l : List A) → All P 
 all-drop P zero l h = h
 all-drop P (suc n) [] h = tt
 all-drop P (suc n) (x ∷ xs) h = all-drop P n xs (h .1)
+
+-- the element behind n others
+pub all-at : {A : Type 0} (P : A → Type 0) (n : ℕ) (l : List A) {x : A} {xs : List A} → drop n l ≡ x ∷ xs → All P l → P x
+all-at P n l e h = subst (All P) e (all-drop P n l h) .0
 
 pub all-reverse : {A : Type 0} (P : A → Type 0) (l : List A) → All P l → All P (reverse l)
 all-reverse {A} P l h = go l [] h tt

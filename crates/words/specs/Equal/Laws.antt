@@ -9,7 +9,7 @@ use lib.Dec.{eqb}
 use lib.ListN.{length, take, drop, getD, length-drop, take-append-drop, drop-of-length-le}
 use lib.Seq.{take-suc, length-take-le, drop-drop, drop-cons}
 use borrow.Author.Tests.{eqb-true, eq-eqb}
-use Rattle.words.specs.Choice.Laws.{both, true-is-false, and-true, and-assoc, fails}
+use Rattle.words.specs.Choice.Laws.{same-test, both, true-is-false, and-true, and-assoc, fails}
 use Rattle.words.specs.Equal.{same}
 
 pub same-equal : (xs ys : List ℕ) → same xs ys ≡ true → xs ≡ ys
@@ -25,6 +25,10 @@ pub equal-same : (xs : List ℕ) → same xs xs ≡ true
 unfolding same
 equal-same [] = refl
 equal-same (x ∷ xs) = rw (eq-eqb x x refl, equal-same xs)
+
+pub same-swap : (xs ys : List ℕ) → same xs ys ≡ same ys xs
+same-swap xs ys =
+    same-test (same xs ys) (same ys xs) (λ e. rw (same-equal xs ys e) (equal-same ys)) (λ e. rw (same-equal ys xs e) (equal-same xs))
 
 pub same-length : (xs ys : List ℕ) → same xs ys ≡ true → length xs ≡ length ys
 same-length xs ys e = ap length (same-equal xs ys e)

@@ -3,6 +3,7 @@ use mathlib.Core.Path.{ap, sym, _∙_}
 use native.Mathlib.Omega.{arith}
 use Rattle.plan.specs.Plan.{readPlan}
 use Rattle.plan.specs.Code as plan
+use Rattle.plan.specs.Code.Packer.Laws.{counted-read}
 use Rattle.plan.specs.Code.Laws.{Counted, counted}
 use Rattle.aplx_check.specs.Check.{check}
 use Rattle.aplx_check.specs.Code.Laws.{plan-refused}
@@ -31,7 +32,7 @@ cast-check-pieces : tie.Need-cast-check-pieces
 cast-check-pieces c = let r = plan-read c in omega (arith, r .few)
 
 check-pieces-requires : tie.Need-check-pieces-requires
-check-pieces-requires c κs = let r = plan-read c in record { is-read = r .accepted; count = r .count; few = r .few }
+check-pieces-requires c κs = counted-read (plan-read c)
 
 returns : tie.Need-returns
 unfolding check

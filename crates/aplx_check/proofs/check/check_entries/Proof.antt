@@ -53,7 +53,7 @@ returns c =
     let x = k .before .before .before .args in
     let l = k .loop in
     let ps = planPieces 1 (x .plan .now) in
-    let e = none-left ps (l .due .index) (x .count) (c .before .if1 .taken) (k .before .before .before .pre .0 .count) in
+    let e = none-left ps (l .due .index) (x .count) (c .before .if1 .taken) (k .before .before .before .pre .0 .counts) in
     let i = rw e at (l .inv .2) in
     c .refused-at .ensures ∙ sym (entry-late (x .image .now) (16 * (x .end + 1)) (x .end) (l .entry) 0 ps (omega arith)) ∙ i
 
@@ -75,11 +75,11 @@ module _ (c : tie.After-accepted-at Inv-loop μ-loop) where
   due = here .loop .due
 
   more : due .index < length ps
-  more = omega (arith, start .pre .0 .count)
+  more = omega (arith, start .pre .0 .counts)
 
   found-here : Found 1 (start .args .plan .now) ps (due .index) (c .accepted-at .result)
   found-here =
-      found 1 (start .args .plan .now) (here .before .before .shared-slice-known .given) (start .pre .0 .is-read) (due .index) more (c .accepted-at .result)
+      found 1 (start .args .plan .now) (here .before .before .shared-slice-known .given) (start .pre .0 .accepted) (due .index) more (c .accepted-at .result)
       (c .accepted-at .ensures)
 
   is-piece : pieceDue ps due ≡ pieceIs (start .args .plan .now) (c .accepted-at .result)
@@ -144,7 +144,7 @@ after-part-requires : tie.Need-after-part-requires Inv-loop μ-loop
 after-part-requires c κs =
     let f = c .before .before in
     let p = start (read f) .pre .0 in
-    (omega (arith, more (read f), p .few, p .count), omega (arith, ends-here f))
+    (omega (arith, more (read f), p .few, p .counts), omega (arith, ends-here f))
 
 add-entry : tie.Need-add-entry Inv-loop μ-loop
 add-entry c = omega arith
@@ -169,7 +169,7 @@ returns-3 c =
     let k = c .before .before .before .before .before .before in
     let x = k .args in
     let ps = planPieces 1 (x .plan .now) in
-    let e = none-left ps (l .due .index) (x .count) (c .if3 .taken) (k .pre .0 .count) in
+    let e = none-left ps (l .due .index) (x .count) (c .if3 .taken) (k .pre .0 .counts) in
     sym (end-due (x .image .now) (16 * (x .end + 1)) (x .end) (l .entry) 0 ps (omega arith)) ∙ (rw e at (l .inv .2))
 
 refused-at-requires-3 : tie.Need-refused-at-requires-3 Inv-loop μ-loop
@@ -182,7 +182,7 @@ returns-4 c =
     let x = k .args in
     let ps = planPieces 1 (x .plan .now) in
     let p = pieceDue ps (l .due) in
-    let h : l .due .index < length ps = omega (arith, k .pre .0 .count, c .before .if3 .left) in
+    let h : l .due .index < length ps = omega (arith, k .pre .0 .counts, c .before .if3 .left) in
     let e = rw (drop-cons ps (l .due .index) (run 0) h) at (l .inv .2) in
     let z : l .entry ≡ x .end = omega arith in
     c .refused-at3 .ensures ∙ ap (refuses 30) (sym z)

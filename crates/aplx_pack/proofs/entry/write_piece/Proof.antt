@@ -1,141 +1,50 @@
--- `aplx_pack::entry::write_piece` meets its contract: each arm writes the entry of its kind of piece, and a put its data.
-use mathlib.Core.Path.{_≡_}
-use Prim.Native.Nat.{_+_, _-_, _≤_}
+-- `aplx_pack::entry::write_piece` meets its contract: the entry, and then the data behind it.
+use mathlib.Core.Path.{ap, _∙_}
+use mathlib.Core.List.{List}
+use Prim.Native.Nat.{ℕ, _-_}
 use native.Mathlib.Omega.{arith}
-use lib.ListN.{length, take, drop}
-use Rattle.words.specs.Four.{fourBytes}
-use Rattle.words.specs.Four.Laws.{length-fourBytes, four-fits}
-use Rattle.words.specs.Store.Laws.{store-nil}
-use Rattle.words.specs.Store.Growing.{both-fit}
-use Rattle.plan.specs.declared.piece.Piece.the-variants.{Put, Fill}
-use Rattle.plan.specs.Code.Packer.{Writable}
-use Rattle.plan.specs.Plan.Laws.{data-length}
-use Rattle.aplx_pack.specs.Image.{entryOf}
+use Rattle.words.specs.Store.{store}
+use Rattle.words.specs.Store.Laws.{store-fits}
+use Rattle.plan.specs.Plan.{dataOf}
+use Rattle.plan.specs.Code.{rowIs, pieceIs}
+use Rattle.aplx_pack.specs.Code.{rowEntry}
+use Rattle.aplx_pack.specs.Code.Laws.{length-rowEntry, row-entry}
 use borrow.Author.Needs.{needs}
 use Rattle.aplx_pack.proofs.entry.write_piece.Statement.{statement}
 use Rattle.aplx_pack.proofs.entry.write_piece.Tie as tie
 
--- what is required, of a put and of a fill
-put-fits : (c : tie.After-known-told) → let x = c .before .before .before .before .before .args in
-    let g = c .before .piece .given .0 in
-    Writable 32 (x .plan .now) (Put (g .0) (g .1 .0) (g .1 .1 .0)) × (x .place + g .1 .1 .0 ≤ length (x .output .now))
-put-fits c =
-    let h = rw (c .before .piece .given .1) at (c .before .before .before .before .before .pre) in
-    (h .0, h .3)
+sub-write-entry : tie.Need-sub-write-entry
+sub-write-entry c = search needs
 
-fill-fits : (c : tie.After-known-told2) → let x = c .before .before .before .before .before .args in
-    let g = c .before .piece2 .given .0 in
-    Writable 32 (x .plan .now) (Fill (g .0) (g .1 .0) (g .1 .1 .0))
-fill-fits c = rw (c .before .piece2 .given .1) at (c .before .before .before .before .before .pre .0)
+cast-write-entry : tie.Need-cast-write-entry
+cast-write-entry c = search needs
 
-enum-known-piece : tie.Need-enum-known-piece
-enum-known-piece c = search needs
+write-entry-requires : tie.Need-write-entry-requires
+write-entry-requires c κs = search needs
 
-add-end : tie.Need-add-end
-add-end c = omega (arith, put-fits c)
-
-sub-put : tie.Need-sub-put
-sub-put c = search needs
-
-cast-put : tie.Need-cast-put
-cast-put c = search needs
-
-cast-put-2 : tie.Need-cast-put-2
-cast-put-2 c = omega (arith, put-fits (c .before))
-
-put-requires : tie.Need-put-requires
-put-requires c κs = search needs
-
-sub-bytes : tie.Need-sub-bytes
-sub-bytes c = search needs
-
-part-bytes-start : tie.Need-part-bytes-start
-part-bytes-start c = search needs
-
-part-bytes-end : tie.Need-part-bytes-end
-part-bytes-end c = put-fits (c .before .before .before .before .before) .0 .0
-
-bytes-requires : tie.Need-bytes-requires
-bytes-requires c κs = search needs
-
-enum-known-piece-2 : tie.Need-enum-known-piece-2
-enum-known-piece-2 c = search needs
-
-cast-put-3 : tie.Need-cast-put-3
-cast-put-3 c = omega (arith, fill-fits (c .before))
-
-put-requires-2 : tie.Need-put-requires-2
-put-requires-2 c κs = search needs
-
-enum-known-piece-3 : tie.Need-enum-known-piece-3
-enum-known-piece-3 c = search needs
-
-put-requires-3 : tie.Need-put-requires-3
-put-requires-3 c κs = search needs
+write-data-requires : tie.Need-write-data-requires
+write-data-requires c κs = search needs
 
 same-length : tie.Need-same-length
 same-length c = search needs
 
 returns : tie.Need-returns
-unfolding entryOf
 returns c =
-    let d = c .before .before .before .before .before .before .before .before .before in
-    let g = d .before .piece .given .0 in
-    let start = d .before .before .before .before .before in
-    let x = start .args in
-    let h = put-fits d in
-    let e : g .1 .0 + g .1 .1 .0 - g .1 .0 ≡ g .1 .1 .0 = omega arith in
-    let bytes = take (g .1 .1 .0) (drop (g .1 .0) (x .plan .now)) in
-    let l : length bytes ≡ g .1 .1 .0 = data-length (x .plan .now) (g .1 .0) (g .1 .1 .0) (h .0 .0) in
-    rw (d .before .piece .given .1)
-    (both-fit (x .output .now) _ _ (x .at) (fourBytes 2 (g .0) (x .place - x .at) (length bytes)) (x .place) bytes
-    (omega (arith, length-fourBytes 2 (g .0) (x .place - x .at) (length bytes))) (omega arith)
-    (rw l (c .before .before .before .before .before .before .before .put .ensures)) (rw e at (c .before .before .bytes .ensures)))
-
-same-length-2 : tie.Need-same-length-2
-same-length-2 c = search needs
-
-returns-2 : tie.Need-returns-2
-unfolding entryOf
-returns-2 c =
-    let d = c .before .before .before .before .before in
-    let x = d .before .before .before .before .args in
-    let h : x .at + 16 ≤ length (x .output .now) = omega arith in
-    simp (c .before .before .put2 .ensures, four-fits, d .piece2 .given .1, store-nil)
-
-same-length-3 : tie.Need-same-length-3
-same-length-3 c = search needs
-
-returns-3 : tie.Need-returns-3
-unfolding entryOf
-returns-3 c =
-    let d = c .before .before .before .before .before in
-    let x = d .before .before .before .before .args in
-    let h : x .at + 16 ≤ length (x .output .now) = omega arith in
-    simp (c .before .before .put3 .ensures, four-fits, d .piece3 .given .1, store-nil)
+    let x = c .before .before .before .before .before .before .before .before .before .before .args in
+    let h = c .before .before .before .before .before .before .before .before .before .before .pre in
+    let off = x .place - x .at in
+    let entry = rowEntry (rowIs (x .piece)) off in
+    let e = c .before .before .before .before .before .before .write-entry .ensures ∙ store-fits (x .output .now) (x .at) entry (omega (arith, length-rowEntry (x .piece) off)) in
+    rw (row-entry 32 (x .plan .now) (x .piece) off (h .0)) at
+    (c .before .before .write-data .ensures ∙ ap (λ (m : List ℕ). store m (x .place) (dataOf (pieceIs (x .plan .now) (x .piece)))) e)
 
 pub write-piece-spec : {M : Type 1} → statement M
 write-piece-spec =
     tie.close
     (tie.spec
-    enum-known-piece
-    add-end
-    sub-put
-    cast-put
-    cast-put-2
-    put-requires
-    sub-bytes
-    part-bytes-start
-    part-bytes-end
-    bytes-requires
-    enum-known-piece-2
-    cast-put-3
-    put-requires-2
-    enum-known-piece-3
-    put-requires-3
+    sub-write-entry
+    cast-write-entry
+    write-entry-requires
+    write-data-requires
     same-length
-    returns
-    same-length-2
-    returns-2
-    same-length-3
-    returns-3)
+    returns)

@@ -8,7 +8,7 @@ use lib.ListN.{length}
 use Rattle.plan.specs.Plan.{readPlan}
 use Rattle.plan.specs.Packed.{planPieces}
 use Rattle.plan.specs.Code.Laws.{Counted, counted}
-use Rattle.plan.specs.Code.Packer.Laws.{leaves-refused, leaves-small, image-fits, leaves-image}
+use Rattle.plan.specs.Code.Packer.Laws.{counted-read, leaves-refused, leaves-small, image-fits, leaves-image}
 use Rattle.aplx_pack.specs.Image.{aplxImage, packAplx}
 use Rattle.aplx_pack.specs.Image.Laws.{length-aplxImage}
 use Rattle.aplx_pack.proofs.pack.pack.Statement.{statement}
@@ -49,7 +49,7 @@ add-size-2 c = omega (arith, read-plan c)
 
 returns : tie.Need-returns
 unfolding packAplx
-returns c = let d = c .before in leaves-small aplxImage (readPlan 32 (plan d)) (start d .args .output .now) (read-plan d) (size-is d) (omega arith)
+returns c = let d = c .before in leaves-small aplxImage (readPlan 32 (plan d)) (start d .args .output .now) (counted-read (read-plan d)) (size-is d) (omega arith)
 
 cast-write-image : tie.Need-cast-write-image
 cast-write-image c = omega (arith, read-plan (c .before))
@@ -57,7 +57,7 @@ cast-write-image c = omega (arith, read-plan (c .before))
 write-image-requires : tie.Need-write-image-requires
 write-image-requires c κs =
     let d = c .before .before in
-    image-fits aplxImage (readPlan 32 (plan d)) (start d .args .output .now) (read-plan d) (size-is d) (omega arith)
+    image-fits aplxImage (readPlan 32 (plan d)) (start d .args .output .now) (counted-read (read-plan d)) (size-is d) (omega arith)
 
 returns-2 : tie.Need-returns-2
 unfolding packAplx
@@ -72,7 +72,7 @@ returns-3 : tie.Need-returns-3
 unfolding packAplx
 returns-3 c =
     let d = c .before .before .before .before .before in
-    leaves-image aplxImage (readPlan 32 (plan d)) (start d .args .output .now) (read-plan d) (size-is d) (omega arith) (c .before .before .write-image .ensures)
+    leaves-image aplxImage (readPlan 32 (plan d)) (start d .args .output .now) (counted-read (read-plan d)) (size-is d) (omega arith) (c .before .before .write-image .ensures)
 
 pub pack-spec : {M : Type 1} → statement M
 pack-spec =

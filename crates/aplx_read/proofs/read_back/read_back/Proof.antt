@@ -6,7 +6,7 @@ use native.Mathlib.Omega.{arith}
 use borrow.Author.Needs.{needs}
 use lib.ListN.{length}
 use Rattle.plan.specs.Code.Laws.{Counted}
-use Rattle.plan.specs.Code.Packer.Laws.{leaves-refused, leaves-small, image-fits, leaves-image}
+use Rattle.plan.specs.Code.Packer.Laws.{counted-read, leaves-refused, leaves-small, image-fits, leaves-image}
 use Rattle.aplx_read.specs.PlanBytes.{planBytes}
 use Rattle.aplx_read.specs.PlanBytes.Laws.{length-planBytes}
 use Rattle.aplx_read.specs.ReadBack.{readImage, readBack}
@@ -50,7 +50,7 @@ add-size-2 c = omega (arith, read-image c)
 
 returns : tie.Need-returns
 unfolding readBack
-returns c = let d = c .before in leaves-small planBytes (readImage (image d)) (start d .args .output .now) (read-image d) (size-is d) (omega arith)
+returns c = let d = c .before in leaves-small planBytes (readImage (image d)) (start d .args .output .now) (counted-read (read-image d)) (size-is d) (omega arith)
 
 cast-write-plan : tie.Need-cast-write-plan
 cast-write-plan c = omega (arith, read-image (c .before))
@@ -61,7 +61,7 @@ cast-write-plan-2 c = omega (arith, read-image (c .before))
 write-plan-requires : tie.Need-write-plan-requires
 write-plan-requires c κs =
     let d = c .before .before in
-    (image-fits planBytes (readImage (image d)) (start d .args .output .now) (read-image d) (size-is d) (omega arith), read-image d .puts)
+    (image-fits planBytes (readImage (image d)) (start d .args .output .now) (counted-read (read-image d)) (size-is d) (omega arith), read-image d .puts)
 
 returns-2 : tie.Need-returns-2
 unfolding readBack
@@ -76,7 +76,7 @@ returns-3 : tie.Need-returns-3
 unfolding readBack
 returns-3 c =
     let d = c .before .before .before .before .before in
-    leaves-image planBytes (readImage (image d)) (start d .args .output .now) (read-image d) (size-is d) (omega arith) (c .before .before .write-plan .ensures)
+    leaves-image planBytes (readImage (image d)) (start d .args .output .now) (counted-read (read-image d)) (size-is d) (omega arith) (c .before .before .write-plan .ensures)
 
 pub read-back-spec : {M : Type 1} → statement M
 read-back-spec =

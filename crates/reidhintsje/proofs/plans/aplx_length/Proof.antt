@@ -7,10 +7,10 @@ use native.Mathlib.Omega.{arith}
 use Rattle.plan.specs.Plan.{readPlan}
 use Rattle.plan.specs.Packed.{planPieces}
 use Rattle.plan.specs.Code as reader
+use Rattle.plan.specs.Code.Packer.Laws.{refused-length}
 use Rattle.plan.specs.Code.Laws.{Counted, counted}
 use Rattle.aplx_pack.specs.Image.{aplxImage}
 use Rattle.aplx_pack.specs.Image.Laws.{length-aplxImage}
-use Rattle.reidhintsje.specs.Calls.Laws.{imageless}
 use Rattle.reidhintsje.proofs.plans.aplx_length.Statement.{statement}
 use Rattle.reidhintsje.proofs.plans.aplx_length.Tie as tie
 
@@ -50,7 +50,7 @@ add-result-2 : tie.Need-add-result-2
 add-result-2 c = omega (arith, read-plan c)
 
 returns : tie.Need-returns
-returns c = imageless aplxImage (readPlan 32 (c .before .before .before .before .args .plan .now)) (sym (c .before .before .read .ensures) ∙ ap reader.outcomeIs (c .enum-told .given .1))
+returns c = refused-length aplxImage (readPlan 32 (c .before .before .before .before .args .plan .now)) (sym (c .before .before .read .ensures) ∙ ap reader.outcomeIs (c .enum-told .given .1))
 
 returns-2 : tie.Need-returns-2
 returns-2 c = let r = read-plan c in

@@ -5,13 +5,13 @@ use mathlib.Core.List.{List}
 use Prim.Native.Nat.{ℕ}
 use native.Mathlib.Omega.{arith}
 use Rattle.plan.specs.Code as reader
+use Rattle.plan.specs.Code.Packer.Laws.{refused-length}
 use Rattle.plan.specs.Code.Laws.{Counted}
 use Rattle.aplx_read.specs.PlanBytes.{planBytes}
 use Rattle.aplx_read.specs.PlanBytes.Laws.{length-planBytes}
 use Rattle.aplx_read.specs.ReadBack.{readImage}
 use Rattle.aplx_read.specs.Code.{imagePieces}
 use Rattle.aplx_read.specs.Code.Laws.{counted}
-use Rattle.reidhintsje.specs.Calls.Laws.{imageless}
 use Rattle.reidhintsje.proofs.plans.plan_length.Statement.{statement}
 use Rattle.reidhintsje.proofs.plans.plan_length.Tie as tie
 
@@ -51,7 +51,7 @@ add-result-2 : tie.Need-add-result-2
 add-result-2 c = omega (arith, read-image c)
 
 returns : tie.Need-returns
-returns c = imageless planBytes (readImage (c .before .before .before .before .args .image .now)) (sym (c .before .before .read .ensures) ∙ ap reader.outcomeIs (c .enum-told .given .1))
+returns c = refused-length planBytes (readImage (c .before .before .before .before .args .image .now)) (sym (c .before .before .read .ensures) ∙ ap reader.outcomeIs (c .enum-told .given .1))
 
 returns-2 : tie.Need-returns-2
 returns-2 c = let r = read-image c in

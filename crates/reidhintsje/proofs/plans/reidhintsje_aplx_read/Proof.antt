@@ -3,7 +3,7 @@ use borrow.Author.Needs.{needs}
 use mathlib.Core.Path.{sym, _∙_}
 use Rattle.aplx_read.specs.PlanBytes.{planBytes}
 use Rattle.aplx_read.specs.ReadBack.{readImage}
-use Rattle.reidhintsje.specs.Calls.{writtenLength}
+use Rattle.plan.specs.Packed.{writtenLength}
 use Rattle.reidhintsje.specs.Calls.Laws.{small-call, other-call}
 use Rattle.reidhintsje.proofs.plans.reidhintsje_aplx_read.Statement.{statement}
 use Rattle.reidhintsje.proofs.plans.reidhintsje_aplx_read.Tie as tie

@@ -3,7 +3,7 @@ use borrow.Author.Needs.{needs}
 use mathlib.Core.Path.{sym, _∙_}
 use Rattle.plan.specs.Plan.{readPlan}
 use Rattle.aplx_pack.specs.Image.{aplxImage}
-use Rattle.reidhintsje.specs.Calls.{writtenLength}
+use Rattle.plan.specs.Packed.{writtenLength}
 use Rattle.reidhintsje.specs.Calls.Laws.{small-call, other-call}
 use Rattle.reidhintsje.proofs.plans.reidhintsje_pack_aplx.Statement.{statement}
 use Rattle.reidhintsje.proofs.plans.reidhintsje_pack_aplx.Tie as tie

@@ -7,10 +7,10 @@ use native.Mathlib.Omega.{arith}
 use Rattle.plan.specs.Plan.{readPlan}
 use Rattle.plan.specs.Packed.{planPieces}
 use Rattle.plan.specs.Code as reader
+use Rattle.plan.specs.Code.Packer.Laws.{refused-length}
 use Rattle.plan.specs.Code.Laws.{Counted, counted}
 use Rattle.srom_pack.specs.Image.{sromImage}
 use Rattle.srom_pack.specs.Image.Laws.{length-sromImage}
-use Rattle.reidhintsje.specs.Calls.Laws.{imageless}
 use Rattle.reidhintsje.proofs.plans.srom_length.Statement.{statement}
 use Rattle.reidhintsje.proofs.plans.srom_length.Tie as tie
 
@@ -53,7 +53,7 @@ add-result-3 : tie.Need-add-result-3
 add-result-3 c = omega (arith, read-plan c)
 
 returns : tie.Need-returns
-returns c = imageless sromImage (readPlan 4 (c .before .before .before .before .args .plan .now)) (sym (c .before .before .read .ensures) ∙ ap reader.outcomeIs (c .enum-told .given .1))
+returns c = refused-length sromImage (readPlan 4 (c .before .before .before .before .args .plan .now)) (sym (c .before .before .read .ensures) ∙ ap reader.outcomeIs (c .enum-told .given .1))
 
 returns-2 : tie.Need-returns-2
 returns-2 c = let r = read-plan c in

@@ -8,7 +8,7 @@ use lib.ListN.{length}
 use Rattle.plan.specs.Plan.{readPlan}
 use Rattle.plan.specs.Packed.{planPieces}
 use Rattle.plan.specs.Code.Laws.{Counted, counted}
-use Rattle.plan.specs.Code.Packer.Laws.{leaves-refused, leaves-small, image-fits, leaves-image}
+use Rattle.plan.specs.Code.Packer.Laws.{counted-read, leaves-refused, leaves-small, image-fits, leaves-image}
 use Rattle.srom_pack.specs.Image.{sromImage, packSrom}
 use Rattle.srom_pack.specs.Image.Laws.{length-sromImage}
 use Rattle.srom_pack.proofs.pack.pack.Statement.{statement}
@@ -53,7 +53,7 @@ add-size-3 c = omega (arith, read-plan c)
 
 returns : tie.Need-returns
 unfolding packSrom
-returns c = let d = c .before in leaves-small sromImage (readPlan 4 (plan d)) (start d .args .output .now) (read-plan d) (size-is d) (omega arith)
+returns c = let d = c .before in leaves-small sromImage (readPlan 4 (plan d)) (start d .args .output .now) (counted-read (read-plan d)) (size-is d) (omega arith)
 
 cast-write-image : tie.Need-cast-write-image
 cast-write-image c = omega (arith, read-plan (c .before))
@@ -61,7 +61,7 @@ cast-write-image c = omega (arith, read-plan (c .before))
 write-image-requires : tie.Need-write-image-requires
 write-image-requires c κs =
     let d = c .before .before in
-    image-fits sromImage (readPlan 4 (plan d)) (start d .args .output .now) (read-plan d) (size-is d) (omega arith)
+    image-fits sromImage (readPlan 4 (plan d)) (start d .args .output .now) (counted-read (read-plan d)) (size-is d) (omega arith)
 
 returns-2 : tie.Need-returns-2
 unfolding packSrom
@@ -76,7 +76,7 @@ returns-3 : tie.Need-returns-3
 unfolding packSrom
 returns-3 c =
     let d = c .before .before .before .before .before in
-    leaves-image sromImage (readPlan 4 (plan d)) (start d .args .output .now) (read-plan d) (size-is d) (omega arith) (c .before .before .write-image .ensures)
+    leaves-image sromImage (readPlan 4 (plan d)) (start d .args .output .now) (counted-read (read-plan d)) (size-is d) (omega arith) (c .before .before .write-image .ensures)
 
 pub pack-spec : {M : Type 1} → statement M
 pack-spec =
