@@ -1,5 +1,5 @@
 """An independent second program: the rules of paper 01, of images read back and of flood fill in Python, written from the papers and not
-from the specs. Two plans are compared in comparison.py, another firm's images checked in checking.py.
+from the specs. Two plans are compared in comparison.py, another firm's images checked in checking.py, equal data shared in sharing.py.
 
 It makes the expected output of the program replay (see replay.py). Nothing of the product depends on it.
 

@@ -1,6 +1,6 @@
 #!/usr/bin/env python3
-"""The inputs of the programs plan_to_aplx, plan_to_srom, aplx_to_plan, compare_plans, conversion_cases, comparison_cases and flood_fill_cases,
-and what each must write.
+"""The inputs of the programs plan_to_aplx, plan_to_shared_aplx, plan_to_srom, aplx_to_plan, compare_plans, conversion_cases,
+comparison_cases and flood_fill_cases, and what each must write.
 
 programs.py write: stores them as crates/NAME/stdin, stdout and data/FILE, and the comparison of the example plans as
 examples/compare.expected.
@@ -12,6 +12,7 @@ import sys
 import model
 from comparison import compare_plans
 from model import aplx_to_plan, plan_to_aplx, plan_to_srom
+from sharing import plan_to_shared_aplx
 
 here = os.path.dirname(os.path.abspath(__file__))
 crates = os.path.join(here, '..', 'crates')
@@ -45,6 +46,14 @@ put_and_fill = [(1, 0x60000000, len(long), 0), (2, 0x60010000, 32800, 0x01020304
 coefficients = hex_text('coefficients.plan.hex')
 recalibrated = hex_text('recalibrated.plan.hex')
 
+# one table for sixteen channels: channel 0 of the coefficients
+channels = plan([(1, 0x400000 + 32 * k, 32, 0) for k in range(16)] + [(3, 0, 0, 0)], coefficients[112:144])
+
+# five puts of three contents, of 21,824, 21,824 and 21,792 bytes: 96 bytes of entries and 65,440 of shared data
+contents = [(len(table), 0), (len(table), 4), (len(table) - 32, 8)]
+three = [(1, 0x60000000 + 0x10000 * k, *contents[which]) for k, which in enumerate((0, 1, 2, 0, 1))]
+longer = table + table[:4]
+
 # the plans of conversion_cases, in the order in which it converts them
 plans = {
     'coefficients': coefficients,
@@ -63,6 +72,10 @@ plans = {
     'srom_largest': plan(put_and_fill, long),
     # a fill of 65,528 bytes: a byte more in the serial ROM image
     'srom_larger': plan([(2, 0x60000000, 65528, 0x01020304)], b''),
+    'channels': channels,
+    # a plan whose shared APLX image has 65,536 bytes, and one with an entry more
+    'shared_largest': plan(three, longer),
+    'shared_larger': plan(three + [run], longer),
 }
 
 
@@ -103,7 +116,8 @@ def case(name, kind, data):
     return b'%s, %s: %d bytes\n%s\n' % (name.encode(), kind, len(data), data)
 
 
-cases = b''.join(case(name, b'APLX', plan_to_aplx(s)) + case(name, b'SROM', plan_to_srom(s)) for name, s in plans.items())
+cases = b''.join(case(name, b'APLX', plan_to_aplx(s)) + case(name, b'shared APLX', plan_to_shared_aplx(s))
+                 + case(name, b'SROM', plan_to_srom(s)) for name, s in plans.items())
 cases += b''.join(case(name, b'plan', aplx_to_plan(s)) for name, s in images.items())
 
 
@@ -244,6 +258,8 @@ stored = {
     'flood_fill_cases/stdout': told + image,
     'plan_to_aplx/stdin': coefficients,
     'plan_to_aplx/stdout': plan_to_aplx(coefficients),
+    'plan_to_shared_aplx/stdin': channels,
+    'plan_to_shared_aplx/stdout': plan_to_shared_aplx(channels),
     'plan_to_srom/stdin': coefficients,
     'plan_to_srom/stdout': plan_to_srom(coefficients),
     'aplx_to_plan/stdin': plan_to_aplx(coefficients),

@@ -17,6 +17,7 @@ import pathlib
 import checking
 import comparison
 import model
+import sharing
 
 REPLAY = pathlib.Path(__file__).resolve().parent.parent / 'crates' / 'replay'
 LONGEST = 8192
@@ -31,6 +32,7 @@ CALLS = {
     'plan_read': ('input', WORD),
     'pack_srom': ('input', 'output'),
     'pack_aplx': ('input', 'output'),
+    'pack_aplx_shared': ('input', 'output'),
     'aplx_read': ('input', 'output'),
     'compare': ('memory', 'input', 'output'),
     'aplx_check': ('memory', 'input'),
@@ -51,6 +53,7 @@ CHANGED = {
     'scp_answer': ('memory', 'output'),
     'pack_srom': ('output',),
     'pack_aplx': ('output',),
+    'pack_aplx_shared': ('output',),
     'aplx_read': ('output',),
     'compare': ('output',),
     'flood_fill_start': ('table',),
@@ -124,7 +127,8 @@ KIND = {'ARM': 1, 'Thumb': 2}
 
 
 def numbers(answer):
-    """The returned number and the eight numbers of the outcome, of a value that model.py, comparison.py or checking.py answers."""
+    """The returned number and the eight numbers of the outcome, of a value that model.py, comparison.py, checking.py or sharing.py
+    answers."""
     outcome = {
         'refused': lambda number, place, needed, plan=0: dict(refusal=number, place=place, event=0, kind=plan, bytes=needed),
         'end': lambda place, taken, stored: dict(place=place, event=1, items=taken, bytes=stored),
@@ -174,6 +178,10 @@ def pack_srom(plan, output):
 
 def pack_aplx(plan, output):
     return numbers(model.pack_aplx(plan, output))
+
+
+def pack_aplx_shared(plan, output):
+    return numbers(sharing.pack_aplx_shared(plan, output))
 
 
 def aplx_read(image, output):

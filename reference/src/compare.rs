@@ -6,6 +6,7 @@ use crate::compare_difference::compare_plans;
 use crate::compare_flood::{compare_flood, describe_flood};
 use crate::compare_read_back::{compare_old_image, compare_read};
 use crate::compare_series::{compare_series, Loads};
+use crate::compare_share::{compare_shared, compare_shared_series};
 use crate::compare_supplied::compare_supplied;
 use crate::generate::Case;
 use crate::guarded::{shown, Guarded, Numbers};
@@ -134,6 +135,9 @@ pub fn compare(
             given.check("the plan", plan)?;
             tally.count("pack_aplx", number_kind(expected[0]));
         }
+        Case::PackShared { plan, output } => {
+            return compare_shared(library, plan, output, random, tally);
+        }
         Case::Series { plan, table, memory, medium, steps } => {
             return compare_series(library, plan, &Loads { table, memory, medium: *medium, steps }, random, tally);
         }
@@ -152,6 +156,10 @@ pub fn compare(
         Case::SuppliedImage { plan, image, table, memory, at, steps } => {
             let loads = Loads { table, memory, medium: Medium::Aplx { image: *at }, steps };
             return compare_supplied(library, plan, image, &loads, random, tally);
+        }
+        Case::SharedImage { plan, table, memory, at, steps } => {
+            let loads = Loads { table, memory, medium: Medium::Aplx { image: *at }, steps };
+            return compare_shared_series(library, plan, &loads, random, tally);
         }
         Case::FloodFill(flood) => return compare_flood(flood, library, random, tally),
     }
@@ -208,6 +216,9 @@ pub fn describe(case: &Case) -> String {
         Case::PackAplx { plan, output } => {
             format!("pack_aplx\n  plan {}\n  output {}\n", shown(plan), shown(output))
         }
+        Case::PackShared { plan, output } => {
+            format!("pack_aplx_shared\n  plan {}\n  output {}\n", shown(plan), shown(output))
+        }
         Case::Series { plan, table, memory, medium, steps } => {
             let text = format!(
                 "series on {medium:x?}\n  plan {}\n  table {}\n  memory {}\n",
@@ -239,6 +250,13 @@ pub fn describe(case: &Case) -> String {
             "supplied image at {at:#x}\n  plan {}\n  image {}\n  table {}\n  memory {}\n{}",
             shown(plan),
             shown(image),
+            shown(table),
+            shown(memory),
+            steps_text(steps)
+        ),
+        Case::SharedImage { plan, table, memory, at, steps } => format!(
+            "shared image at {at:#x}\n  plan {}\n  table {}\n  memory {}\n{}",
+            shown(plan),
             shown(table),
             shown(memory),
             steps_text(steps)

@@ -59,7 +59,7 @@ pub fn read_on_both(
 }
 
 /// The pieces of a plan that was read, and its image by the library.
-fn packed_again(
+pub fn packed_again(
     library: &dyn Library,
     plan: &[u8],
     random: &mut Random,

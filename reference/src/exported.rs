@@ -105,6 +105,19 @@ pub unsafe extern "C" fn reidhintsje_pack_aplx(
 }
 
 #[no_mangle]
+pub unsafe extern "C" fn reidhintsje_pack_aplx_shared(
+    plan: *const u8, plan_length: usize,
+    output: *mut u8, output_length: usize,
+    outcome: *mut Outcome,
+) -> u32 {
+    Reference.pack_aplx_shared(
+        from_raw_parts(plan, plan_length),
+        from_raw_parts_mut(output, output_length),
+        &mut *outcome,
+    )
+}
+
+#[no_mangle]
 pub unsafe extern "C" fn reidhintsje_aplx_read(
     image: *const u8, image_length: usize,
     output: *mut u8, output_length: usize,

@@ -13,6 +13,7 @@ use crate::plan_difference::{self, Compared, Side, SideRefusal};
 use crate::read_back;
 use crate::receiver::{receiver_of, write_receiver, ReceiverBytes, DONE};
 use crate::scp::{self, Identity, Reply};
+use crate::share;
 use crate::srom;
 
 pub const TABLE: usize = 132;
@@ -49,6 +50,7 @@ pub trait Library {
     fn plan_read(&self, plan: &[u8], target: u32, outcome: &mut Outcome) -> u32;
     fn pack_srom(&self, plan: &[u8], output: &mut [u8], outcome: &mut Outcome) -> u32;
     fn pack_aplx(&self, plan: &[u8], output: &mut [u8], outcome: &mut Outcome) -> u32;
+    fn pack_aplx_shared(&self, plan: &[u8], output: &mut [u8], outcome: &mut Outcome) -> u32;
     fn aplx_read(&self, image: &[u8], output: &mut [u8], outcome: &mut Outcome) -> u32;
     fn compare(&self, old: &[u8], new: &[u8], output: &mut [u8], outcome: &mut Outcome) -> u32;
     fn aplx_check(&self, plan: &[u8], image: &[u8], outcome: &mut Outcome) -> u32;
@@ -421,6 +423,11 @@ impl Library for Reference {
     fn pack_aplx(&self, plan: &[u8], output: &mut [u8], outcome: &mut Outcome) -> u32 {
         let needed = || plan::read(plan, plan::APLX_UNIT).map_or(0, |pieces| pack::aplx_length(&pieces));
         give(outcome, pack_numbers(pack::pack_aplx(plan, output), needed))
+    }
+
+    fn pack_aplx_shared(&self, plan: &[u8], output: &mut [u8], outcome: &mut Outcome) -> u32 {
+        let needed = || plan::read(plan, plan::APLX_UNIT).map_or(0, |pieces| share::shared_length(plan, &pieces));
+        give(outcome, pack_numbers(share::pack_aplx_shared(plan, output), needed))
     }
 
     fn aplx_read(&self, image: &[u8], output: &mut [u8], outcome: &mut Outcome) -> u32 {

@@ -45,6 +45,11 @@ extern "C" {
         output: *mut u8, output_length: usize,
         outcome: *mut u64,
     ) -> u32;
+    fn reidhintsje_pack_aplx_shared(
+        plan: *const u8, plan_length: usize,
+        output: *mut u8, output_length: usize,
+        outcome: *mut u64,
+    ) -> u32;
     fn reidhintsje_aplx_read(
         image: *const u8, image_length: usize,
         output: *mut u8, output_length: usize,
@@ -166,6 +171,16 @@ impl Library for Linked {
     fn pack_aplx(&self, plan: &[u8], output: &mut [u8], outcome: &mut Outcome) -> u32 {
         unsafe {
             reidhintsje_pack_aplx(
+                plan.as_ptr(), plan.len(),
+                output.as_mut_ptr(), output.len(),
+                outcome.as_mut_ptr(),
+            )
+        }
+    }
+
+    fn pack_aplx_shared(&self, plan: &[u8], output: &mut [u8], outcome: &mut Outcome) -> u32 {
+        unsafe {
+            reidhintsje_pack_aplx_shared(
                 plan.as_ptr(), plan.len(),
                 output.as_mut_ptr(), output.len(),
                 outcome.as_mut_ptr(),

@@ -51,6 +51,7 @@ fn call<'a>(name: &str, n: &[u64], buffers: &'a mut Buffers) -> Option<(Vec<u64>
         "plan_read" => (Reference.plan_read(input, n[0] as u32, &mut outcome), vec![]),
         "pack_srom" => (Reference.pack_srom(input, output, &mut outcome), vec![output]),
         "pack_aplx" => (Reference.pack_aplx(input, output, &mut outcome), vec![output]),
+        "pack_aplx_shared" => (Reference.pack_aplx_shared(input, output, &mut outcome), vec![output]),
         "aplx_read" => (Reference.aplx_read(input, output, &mut outcome), vec![output]),
         "compare" => (Reference.compare(memory, input, output, &mut outcome), vec![output]),
         "aplx_check" => (Reference.aplx_check(memory, input, &mut outcome), vec![]),

@@ -10,6 +10,7 @@ use crate::interface::{at, event, map_of, Numbers, Outcome, TABLE};
 use crate::plan::Piece;
 use crate::receiver::ReceiverBytes;
 use crate::scp;
+use crate::share_kinds;
 
 #[derive(Default)]
 pub struct Tally {
@@ -247,6 +248,7 @@ pub fn required() -> Vec<(&'static str, String)> {
     let mut all: Vec<(&'static str, String)> =
         difference_kinds::required().into_iter().map(|what| ("compare", what)).collect();
     all.extend(check_kinds::required().into_iter().map(|what| ("aplx_check", what)));
+    all.extend(share_kinds::required().into_iter().map(|what| ("pack_aplx_shared", what)));
     let mut numbers = |call, list: &[u64]| {
         all.extend(list.iter().map(|number| (call, number_kind(*number))));
     };
@@ -267,6 +269,7 @@ pub fn required() -> Vec<(&'static str, String)> {
     numbers("flood_fill_block_end", &[24, 29]);
     numbers("series SROM", &[4, 9]);
     numbers("series APLX", &[4, 9]);
+    numbers("series shared", &[4, 9]);
     numbers("series old image", &[4, 9]);
     numbers("series packed again", &[4, 9]);
     let mut words = |call, list: &[&str]| {
@@ -290,6 +293,7 @@ pub fn required() -> Vec<(&'static str, String)> {
     }
     words("series SROM", &["stop end", "stop run ARM", "stop run Thumb"]);
     words("series APLX", &["stop end", "stop run ARM", "stop run Thumb"]);
+    words("series shared", &["something shared", "nothing shared", "stop end", "stop run ARM", "stop run Thumb"]);
     words("series old image", &["stop end", "stop run ARM", "stop run Thumb"]);
     words("series packed again", &["stop end", "stop run ARM", "stop run Thumb"]);
     words("series supplied", &["stop end", "stop run", "not permitted"]);

@@ -35,7 +35,7 @@ fn kinds(name: &str) -> Option<&'static [Kind]> {
         "aplx_load" => &[Table, Memory, WORD],
         "scp_answer" => &[Table, Memory, WORD, WORD, WORD, WORD, WORD, Input, Output],
         "plan_read" => &[Input, WORD],
-        "pack_srom" | "pack_aplx" | "aplx_read" => &[Input, Output],
+        "pack_srom" | "pack_aplx" | "pack_aplx_shared" | "aplx_read" => &[Input, Output],
         "compare" => &[Memory, Input, Output],
         "aplx_check" => &[Memory, Input],
         "map_sound" => &[Table, LONG],

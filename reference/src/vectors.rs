@@ -15,6 +15,7 @@ use reference::interface::{table_of, Library, Outcome, Reference};
 use reference::map::{Map, Region, Rights};
 use reference::random::Random;
 use reference::read_back;
+use reference::share_kinds;
 use reference::tally::{
     call_of, flood_kind, load_kind, number_kind, read_back_kinds, read_kinds, reply_kind, required, rights_kind,
     table_kind, Tally,
@@ -25,6 +26,7 @@ mod check_vectors;
 mod difference_vectors;
 mod flood_vectors;
 mod read_back_vectors;
+mod share_vectors;
 
 /// The first line of the file.
 const HEAD: &str = "# Calls that the reference writes (reference/vectors). The head of the file `cases` says how they are \
@@ -52,6 +54,7 @@ fn beyond(call: &str, what: &str) -> bool {
             && ["511 stretches", "512 stretches", "64 pieces", "output of more bytes", "with its image read back"]
                 .contains(&what))
         || (call == "aplx_check" && (what.contains("25") || what == "a put of 65536 bytes"))
+        || (call == "pack_aplx_shared" && share_vectors::BEYOND.contains(&what))
         || (call == "srom_load" && what == "refused 13")
         || (call == "aplx_load" && what == "refused  7")
 }
@@ -240,7 +243,18 @@ impl Vectors {
                 }
                 self.write(Record::new("aplx_check").slice(plan).slice(image));
             }
-            Case::Series { .. } | Case::OldImage { .. } | Case::SuppliedImage { .. } | Case::FloodFill(_) => {}
+            Case::PackShared { plan, output } => {
+                Reference.pack_aplx_shared(plan, &mut output.clone(), &mut outcome);
+                for kind in share_kinds::kinds(&outcome, plan, output.len()) {
+                    self.tally.count("pack_aplx_shared", kind);
+                }
+                self.write(Record::new("pack_aplx_shared").slice(plan).slice(output));
+            }
+            Case::Series { .. }
+            | Case::OldImage { .. }
+            | Case::SuppliedImage { .. }
+            | Case::SharedImage { .. }
+            | Case::FloodFill(_) => {}
         }
     }
 
@@ -388,6 +402,9 @@ fn main() {
         vectors.add(&case, true);
     }
     for case in check_vectors::all(&mut random) {
+        vectors.add(&case, true);
+    }
+    for case in share_vectors::all(&mut random) {
         vectors.add(&case, true);
     }
     let mut missing = vectors.tally.missing(&required());

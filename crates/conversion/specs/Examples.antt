@@ -6,14 +6,15 @@ use lib.ListN.{replicate}
 use Rattle.words.specs.Four.{fourBytes}
 use Rattle.words.specs.Store.{store}
 use Rattle.plan.specs.Plan.{put}
-use Rattle.aplx_pack.specs.Open as aplx
+use Rattle.aplx_share.specs.Open as aplx
+use Rattle.aplx_share.specs.SharedImage.{sharedImage}
 use Rattle.srom_pack.specs.Image.{sromImage}
 use Rattle.srom_pack.specs.Open as srom
 use Rattle.aplx_read.specs.Open as read-back
 use Rattle.text.specs.Digits.{digits}
 use Rattle.text.specs.Decimal.{leading, width, decimal}
 use Rattle.text.specs.Refusal.{refusalLine}
-use Rattle.conversion.specs.declared.convert.Medium.the-variants.{Aplx, Srom}
+use Rattle.conversion.specs.declared.convert.Packing.the-variants.{Aplx, SharedAplx, Srom}
 use Rattle.conversion.specs.declared.read_back.Written.the-variants.{Bytes, TooLong}
 use Rattle.conversion.specs.Conversion.{packFor, converted, written}
 use Rattle.conversion.specs.Restored.{bytes, nothing, restored, answerOf, outputOf}
@@ -28,12 +29,20 @@ twenty =
     1 ∷ 0 ∷ 0 ∷ 0 ∷ 16 ∷ 0 ∷ 0 ∷ 0 ∷ 32 ∷ 0 ∷ 0 ∷ 0 ∷ 20 ∷ 0 ∷ 0 ∷ 0 ∷ 1 ∷ 0 ∷ 0 ∷ 0 ∷ 0 ∷ 1 ∷ 0 ∷ 0 ∷ 20 ∷ 0 ∷ 0 ∷ 0 ∷ 0 ∷ 0 ∷ 0 ∷ 0
     ∷ replicate 20 7
 
+-- a plan of two puts of the same 32 bytes
+unfoldable twice : List ℕ
+twice = fourBytes 2 16 48 32 ++ (fourBytes 1 256 32 0 ++ (fourBytes 1 512 32 0 ++ replicate 32 7))
+
 record Conversions : Type 0 where
   pub empty-srom : converted Srom none 65536 ≡ 0x55 ∷ 0xff ∷ []
   pub empty-aplx : converted Aplx none 65536 ≡ 0xff ∷ 0xff ∷ 0xff ∷ 0xff ∷ replicate 12 0
   -- 20 bytes are five words for a serial ROM, and no length for APLX: "refused 12 at 0"
   pub twenty-srom : converted Srom twenty 65536 ≡ sromImage (put 256 (replicate 20 7) ∷ [])
   pub twenty-aplx : converted Aplx twenty 65536 ≡ 114 ∷ 101 ∷ 102 ∷ 117 ∷ 115 ∷ 101 ∷ 100 ∷ 32 ∷ 49 ∷ 50 ∷ 32 ∷ 97 ∷ 116 ∷ 32 ∷ 48 ∷ 10 ∷ []
+  pub twenty-shared : converted SharedAplx twenty 65536 ≡ refusalLine 12 0
+  -- two puts of the same 32 bytes: an image of 80 bytes, and without sharing one of 112
+  pub shared : converted SharedAplx twice 80 ≡ sharedImage (put 256 (replicate 32 7) ∷ put 512 (replicate 32 7) ∷ [])
+  pub not-shared : converted Aplx twice 111 ≡ refusalLine 10 2
   -- no bytes at all: "refused 2 at 0"
   pub no-plan : converted Srom [] 65536 ≡ 114 ∷ 101 ∷ 102 ∷ 117 ∷ 115 ∷ 101 ∷ 100 ∷ 32 ∷ 50 ∷ 32 ∷ 97 ∷ 116 ∷ 32 ∷ 48 ∷ 10 ∷ []
   -- an image of 29 bytes
@@ -45,12 +54,15 @@ record Conversions : Type 0 where
   pub longer : converted Srom (replicate 32769 0) 65536 ≡ refusalLine 11 0
 
 conversions : Conversions
-unfolding aplx.image srom.image refusalLine decimal width leading digits packFor converted
+unfolding aplx.image srom.image refusalLine decimal width leading digits packFor converted twice
 conversions = record {
   empty-srom = refl;
   empty-aplx = refl;
   twenty-srom = refl;
   twenty-aplx = refl;
+  twenty-shared = refl;
+  shared = refl;
+  not-shared = refl;
   no-plan = refl;
   too-large = refl;
   no-room = refl;

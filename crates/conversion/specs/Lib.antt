@@ -1,4 +1,4 @@
--- A plan as an image for a medium, and an image as its plan, as bytes to be written to a file.
+-- A plan packed as an image, and an image as its plan, as bytes to be written to a file.
 pub mod Shown
 pub mod Conversion
 pub mod Restored

@@ -1,4 +1,4 @@
-// A plan as an image for a medium, and an image as its plan, as bytes to be written to a file.
+// A plan packed as an image, and an image as its plan, as bytes to be written to a file.
 pub mod convert; // the image of a plan
 pub mod read_back; // the plan of an image
 pub mod program; // from standard input to standard output

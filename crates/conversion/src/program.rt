@@ -2,7 +2,7 @@
 ghost use Rattle.io.specs.Counts.{Counts};
 ghost use Rattle.conversion.specs.Conversion.{FromFile};
 ghost use Rattle.conversion.specs.Restored.{FromImageFile, Inside};
-use crate::convert::Medium;
+use crate::convert::Packing;
 use crate::read_back::Written;
 use libc::STDERR_FILENO;
 use libc::STDIN_FILENO;
@@ -10,13 +10,13 @@ use libc::STDOUT_FILENO;
 
 // What is written for the plan in a file: so many bytes at the output's front.
 // One byte more is read than a plan may have, so that a longer one is seen.
-pub fn convert_file(medium: Medium, file: i32, output: &mut [u8; 65536]) -> usize
-    ensures { λ r. ⌜ FromFile medium (now (output .entry)) r (now (output .exit)) ⌝ }
+pub fn convert_file(packing: Packing, file: i32, output: &mut [u8; 65536]) -> usize
+    ensures { λ r. ⌜ FromFile packing (now (output .entry)) r (now (output .exit)) ⌝ }
     ensures { λ r. ⌜ Counts r (now (output .exit)) ⌝ }
 {
     let mut input = [0u8; 32769];
     let n = io::read_full(file, &mut input);
-    crate::convert::convert(medium, &input[..n], output)
+    crate::convert::convert(packing, &input[..n], output)
 }
 
 // What is written for the image in a file. One byte more is read than an image may have, so that a longer one is seen.
@@ -36,9 +36,9 @@ fn write(bytes: &[u8]) {
 }
 
 // From standard input to standard output, a plan to its image.
-pub fn run(medium: Medium) {
+pub fn run(packing: Packing) {
     let mut output = [0u8; 65536];
-    let size = convert_file(medium, STDIN_FILENO, &mut output);
+    let size = convert_file(packing, STDIN_FILENO, &mut output);
     write(&output[..size]);
 }
 

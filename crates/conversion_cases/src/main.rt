@@ -1,5 +1,5 @@
-// The plans in data/, each converted for both media, and the images, each read back. second/programs.py makes them and says what each is.
-use conversion::convert::Medium;
+// The plans in data/, each converted to every image, and the images, each read back. second/programs.py makes them and says what each is.
+use conversion::convert::Packing;
 use conversion::read_back::Written;
 use libc::STDOUT_FILENO;
 
@@ -18,21 +18,22 @@ fn show(name: &[u8], kind: &[u8], bytes: &[u8]) {
 }
 
 // What is written for the plan in a file.
-fn convert(name: &[u8], medium: Medium, medium_name: &[u8]) {
+fn convert(name: &[u8], packing: Packing, packing_name: &[u8]) {
     let file = os::open_read(name);
     if file < 0 {
         os::fail(name);
         return;
     }
     let mut output = [0u8; 65536];
-    let size = conversion::program::convert_file(medium, file, &mut output);
+    let size = conversion::program::convert_file(packing, file, &mut output);
     libc::close(file);
-    show(name, medium_name, &output[..size]);
+    show(name, packing_name, &output[..size]);
 }
 
 fn plan(name: &[u8]) {
-    convert(name, Medium::Aplx, b", APLX: ");
-    convert(name, Medium::Srom, b", SROM: ");
+    convert(name, Packing::Aplx, b", APLX: ");
+    convert(name, Packing::SharedAplx, b", shared APLX: ");
+    convert(name, Packing::Srom, b", SROM: ");
 }
 
 // What is written for the image in a file.
@@ -64,6 +65,9 @@ fn main() {
     plan(b"too_long");
     plan(b"srom_largest");
     plan(b"srom_larger");
+    plan(b"channels");
+    plan(b"shared_largest");
+    plan(b"shared_larger");
     image(b"image_coefficients");
     image(b"empty");
     image(b"image_refused");

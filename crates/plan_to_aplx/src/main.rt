@@ -1,6 +1,6 @@
 // A plan from standard input becomes an APLX image, or the line of a refusal, on standard output.
-use conversion::convert::Medium;
+use conversion::convert::Packing;
 
 fn main() {
-    conversion::program::run(Medium::Aplx);
+    conversion::program::run(Packing::Aplx);
 }

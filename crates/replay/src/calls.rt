@@ -43,6 +43,9 @@ fn plan_of(line: &[u8]) -> u32 {
     if behind_word(line, b"aplx_check ") != NONE {
         return 17;
     }
+    if behind_word(line, b"pack_aplx_shared ") != NONE {
+        return 18;
+    }
     0
 }
 
@@ -121,6 +124,7 @@ fn kind_of(call: u32, index: usize) -> u8 {
         15 => kind(b"io", index),
         16 => kind(b"mio", index),
         17 => kind(b"mi", index),
+        18 => kind(b"io", index),
         _ => b'n',
     }
 }

@@ -95,6 +95,13 @@ pub(crate) fn pack_aplx(plan: &[u8], out: &mut [u8]) {
     output::bytes(out);
 }
 
+pub(crate) fn pack_aplx_shared(plan: &[u8], out: &mut [u8]) {
+    let mut outcome = [0u64; 8];
+    let answer = reidhintsje::plans::reidhintsje_pack_aplx_shared(plan, out, &mut outcome);
+    output::numbers(answer, outcome);
+    output::bytes(out);
+}
+
 pub(crate) fn aplx_read(image: &[u8], out: &mut [u8]) {
     let mut outcome = [0u64; 8];
     let answer = reidhintsje::plans::reidhintsje_aplx_read(image, out, &mut outcome);

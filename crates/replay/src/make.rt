@@ -37,7 +37,8 @@ fn made(
         14 => flood_fill::block_end(numbers, table, memory),
         15 => library::aplx_read(input, out),
         16 => library::compare(memory, input, out),
-        _ => library::aplx_check(memory, input),
+        17 => library::aplx_check(memory, input),
+        _ => library::pack_aplx_shared(input, out),
     }
 }
 

@@ -13,8 +13,11 @@ mod parts;
 mod pictures;
 mod plans;
 mod receivers;
+mod repeats;
 mod roms;
 mod rows;
+mod shared_images;
+mod shares;
 mod slices;
 mod stretches;
 mod supplied;
@@ -45,6 +48,7 @@ pub enum Case {
     PlanRead { plan: Vec<u8>, target: u32 },
     PackSrom { plan: Vec<u8>, output: Vec<u8> },
     PackAplx { plan: Vec<u8>, output: Vec<u8> },
+    PackShared { plan: Vec<u8>, output: Vec<u8> },
     /// `packed`: the image is just what the packer writes of a plan.
     AplxRead { image: Vec<u8>, output: Vec<u8>, packed: bool },
     Compare { old: Vec<u8>, new: Vec<u8>, output: Vec<u8> },
@@ -55,6 +59,8 @@ pub enum Case {
     OldImage { image: Vec<u8>, table: Vec<u8>, memory: Vec<u8>, old: u32, new: u32, steps: Vec<Step> },
     /// An image of another firm's packer in memory at an address.
     SuppliedImage { plan: Vec<u8>, image: Vec<u8>, table: Vec<u8>, memory: Vec<u8>, at: u32, steps: Vec<Step> },
+    /// The image with shared data of a plan in memory at an address.
+    SharedImage { plan: Vec<u8>, table: Vec<u8>, memory: Vec<u8>, at: u32, steps: Vec<Step> },
     FloodFill(Flood),
 }
 
@@ -77,12 +83,14 @@ pub enum Call {
     PlanRead,
     PackSrom,
     PackAplx,
+    PackShared,
     AplxRead,
     Compare,
     AplxCheck,
     Series,
     OldImage,
     SuppliedImage,
+    SharedImage,
     FloodFill,
 }
 
@@ -97,19 +105,21 @@ pub fn case_of(call: Call, random: &mut Random, size: Size) -> Case {
         Call::PlanRead => plans::read(random, size),
         Call::PackSrom => plans::pack_srom(random, size),
         Call::PackAplx => plans::pack_aplx(random, size),
+        Call::PackShared => shares::pack_shared(random, size),
         Call::AplxRead => slices::read(random, size),
         Call::Compare => pairs::compare(random, size),
         Call::AplxCheck => checks::check(random, size),
         Call::Series => stretches::series(random),
         Call::OldImage => old_images::old_image(random),
         Call::SuppliedImage => supplied_images::supplied_image(random),
+        Call::SharedImage => shared_images::shared_image_in_memory(random),
         Call::FloodFill => Case::FloodFill(floods::flood(random, size)),
     }
 }
 
 /// An input of any call.
 pub fn case(random: &mut Random) -> Case {
-    let call = match random.below(144) {
+    let call = match random.below(158) {
         0..=8 => Call::MapAdd,
         9..=12 => Call::MapSound,
         13..=27 => Call::SromLoad,
@@ -124,6 +134,8 @@ pub fn case(random: &mut Random) -> Case {
         115..=124 => Call::Compare,
         125..=136 => Call::AplxCheck,
         137..=140 => Call::SuppliedImage,
+        141..=150 => Call::PackShared,
+        151..=154 => Call::SharedImage,
         _ => Call::OldImage,
     };
     case_of(call, random, Size::Free)

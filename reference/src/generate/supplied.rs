@@ -13,7 +13,7 @@ use crate::random::Random;
 pub struct Entry {
     pub words: [u32; 4],
     pub data: Option<usize>,
-    /// The piece of which it is the run or a part.
+    /// The piece of which it is the run or a part; 0 where it is an entry too many, also in a plan with no pieces.
     pub piece: usize,
 }
 

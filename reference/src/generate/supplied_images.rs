@@ -1,6 +1,8 @@
 //! Random images of another firm's packer that lie in memory: a map, a memory with the image in it, and the steps of a series that
 //! keeps what demand 3 grants.
 
+use std::ops::Range;
+
 use super::old_images::address;
 use super::parts::Part;
 use super::supplied::Supplied;
@@ -44,21 +46,26 @@ fn attempt(random: &mut Random) -> Option<Case> {
     let pieces = plan::read(&plan, plan::NO_UNIT).ok()?;
     scene.poke(at, &image);
     let place = scene.map.lookup(Right::Read, at, image.len() as u64)?;
-    let kept = place..place + image.len();
+    let steps = steps(random, &pieces, scene.memory.len(), place..place + image.len());
+    let at = at as u32;
+    let whole = granted(Medium::Aplx { image: at }, &pieces, &image, &scene.map, &scene.memory, &steps);
+    whole.then_some(Case::SuppliedImage { plan, image, table: scene.table, memory: scene.memory, at, steps })
+}
+
+/// Loads of an image, often on from the last run, in a memory of so many bytes; what changes after a load is not the image, which is kept.
+pub fn steps(random: &mut Random, pieces: &[Piece], memory: usize, kept: Range<usize>) -> Vec<Step> {
     let mut next = 0;
     let mut steps = Vec::new();
     for _ in 0..random.between(1, 5) {
         let index = if random.once_in(3) { random.below(pieces.len() + 1) } else { next };
-        next = stretch(&pieces, index).end;
+        next = stretch(pieces, index).end;
         let changes = (0..random.pick(&[0, 1, 20]))
-            .map(|_| (random.below(scene.memory.len() + 2), random.byte()))
+            .map(|_| (random.below(memory + 2), random.byte()))
             .filter(|(at, _)| !kept.contains(at))
             .collect();
         steps.push(Step { index, changes });
     }
-    let at = at as u32;
-    let whole = granted(Medium::Aplx { image: at }, &pieces, &image, &scene.map, &scene.memory, &steps);
-    whole.then_some(Case::SuppliedImage { plan, image, table: scene.table, memory: scene.memory, at, steps })
+    steps
 }
 
 /// Another address for a piece and its entries.

@@ -25,7 +25,7 @@ fn take(made: &mut Supplied, index: usize, start: usize) -> Option<()> {
     let [_, address, _, length] = made.entries[index].words;
     let bytes = made.image()[start..start + length as usize].to_vec();
     let piece = made.entries[index].piece;
-    let Part::Put { address: first, bytes: all } = &mut made.pieces[piece] else { return None };
+    let Part::Put { address: first, bytes: all } = made.pieces.get_mut(piece)? else { return None };
     let from = address.wrapping_sub(*first) as usize;
     all.get_mut(from..from + bytes.len())?.copy_from_slice(&bytes);
     Some(())
@@ -114,7 +114,7 @@ pub fn from_the_header(random: &mut Random, made: &mut Supplied) -> Option<u64> 
 pub fn past_the_last_address(random: &mut Random, made: &mut Supplied) -> Option<u64> {
     let index = part(random, made, &[RCOPY, FILL])?;
     let piece = made.entries[index].piece;
-    let parts = made.pieces[piece].bytes().len() / 32;
+    let parts = made.pieces.get(piece)?.bytes().len() / 32;
     if !(2..=40).contains(&parts) {
         return None;
     }

@@ -27,7 +27,7 @@ pub fn exchanged(random: &mut Random, made: &mut Supplied) -> Option<u64> {
 pub fn sorted(_: &mut Random, made: &mut Supplied) -> Option<u64> {
     let before = made.entries.clone();
     let pieces = &made.pieces;
-    made.entries.sort_by_key(|entry| pieces[entry.piece].address());
+    made.entries.sort_by_key(|entry| pieces.get(entry.piece).map(Part::address));
     let moved = before.iter().zip(&made.entries).position(|(old, new)| old.piece != new.piece)?;
     differ(&made.entries[moved], Some(&before[moved])).then_some(moved as u64)
 }

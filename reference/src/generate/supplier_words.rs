@@ -50,7 +50,7 @@ pub fn padded(random: &mut Random, made: &mut Supplied) -> Option<u64> {
     let index = last_part(random, made)?;
     let less = random.between(1, 31);
     let piece = made.entries[index].piece;
-    shorten(&mut made.pieces[piece], less)?;
+    shorten(made.pieces.get_mut(piece)?, less)?;
     if random.once_in(3) {
         let length = length_of(&mut made.entries[index]);
         *length = length.wrapping_sub(less as u32);
@@ -63,7 +63,7 @@ pub fn left_out(random: &mut Random, made: &mut Supplied) -> Option<u64> {
     let index = last_part(random, made)?;
     let piece = made.entries[index].piece;
     let less = random.between(1, 31);
-    shorten(&mut made.pieces[piece], less)?;
+    shorten(made.pieces.get_mut(piece)?, less)?;
     let length = length_of(&mut made.entries[index]);
     if *length <= 32 {
         made.entries.remove(index);
@@ -89,7 +89,7 @@ pub fn over_the_next(random: &mut Random, made: &mut Supplied) -> Option<u64> {
         return None;
     }
     let Entry { words, piece, .. } = made.entries[index].clone();
-    let whole = made.pieces[piece].bytes();
+    let whole = made.pieces.get(piece)?.bytes();
     let from = words[1].wrapping_sub(made.pieces[piece].address()) as usize;
     let length = length_of(&mut made.entries[index]);
     *length += 32;
@@ -166,7 +166,7 @@ pub fn put_as_fill(random: &mut Random, made: &mut Supplied) -> Option<u64> {
     let index = part(random, made, &[RCOPY])?;
     let Entry { words: [_, address, _, length], piece, .. } = made.entries[index];
     let word: u32 = random.pick(&[0, 0x0707_0707, 0x0403_0201]);
-    let Part::Put { address: first, bytes } = &mut made.pieces[piece] else { return None };
+    let Part::Put { address: first, bytes } = made.pieces.get_mut(piece)? else { return None };
     let from = address.wrapping_sub(*first) as usize;
     for (at, byte) in bytes.get_mut(from..from + length as usize)?.iter_mut().enumerate() {
         *byte = word.to_le_bytes()[at % 4];

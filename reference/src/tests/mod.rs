@@ -1,5 +1,6 @@
 //! Tests of the reference: the paper's pieces with known weight, the slips seen on the bench, each refusal number,
-//! the series of demand 3, two plans compared, another firm's images checked, the flood-fill receiver, and calls as text.
+//! the series of demand 3, two plans compared, another firm's images checked, equal data shared, the flood-fill receiver,
+//! and calls as text.
 
 mod check;
 mod check_again;
@@ -14,6 +15,9 @@ mod plan_differences;
 mod plans;
 mod read_back;
 mod receivers;
+mod share;
+mod share_again;
+mod share_refusals;
 mod slips;
 mod text;
 mod weighed;

@@ -210,7 +210,7 @@ fn the_example_of_the_formats() {
 }
 
 /// What a plan says, with the bytes of its puts.
-fn said(plan: &[u8]) -> Vec<(Piece, Vec<u8>)> {
+pub fn said(plan: &[u8]) -> Vec<(Piece, Vec<u8>)> {
     let pieces = plans::read(plan, plans::APLX_UNIT).expect("a plan");
     let bytes = |piece: &Piece| match piece {
         Piece::Put { data, .. } => plan[data.clone()].to_vec(),

@@ -27,6 +27,7 @@ fn a_buffer_is_kept() {
     assert!(read_call("pack_srom x0102 xee*3", &mut buffers).is_some());
     buffers.output[0] = 0x55;
     assert!(read_call("pack_aplx = =", &mut buffers).is_some());
+    assert!(read_call("pack_aplx_shared = =", &mut buffers).is_some());
     assert!(read_call("aplx_read = =", &mut buffers).is_some());
     assert_eq!((buffers.input, buffers.output), (vec![1, 2], vec![0x55, 0xee, 0xee]));
 }
@@ -113,6 +114,9 @@ fn what_is_no_call_is_refused() {
         "map_sound x +1",
         "run_entry x 4294967296",
         "plan_read x -1",
+        "pack_aplx_shared x",
+        "pack_aplx_shared x x x",
+        "pack_aplx_share x x",
         "aplx_read x",
         "aplx_read x x 0",
     ] {

@@ -22,7 +22,7 @@ returns : tie.Need-returns
 returns c =
     let x = c .before .before .before .before .before .before .before .args in
     let w = c .before .before .put .ensures in
-    let d = too-long (x .medium) (x .plan .now) (x .output .now) (omega arith) (w .0) (w .1) in
+    let d = too-long (x .packing) (x .plan .now) (x .output .now) (omega arith) (w .0) (w .1) in
     (d .length-is, (d .output-is, d .inside))
 
 pack-requires : tie.Need-pack-requires
@@ -41,8 +41,8 @@ returns-2 c =
     let s = c .before .before .show in
     let n = length (x .output .now) in
     let d =
-    short (x .medium) (x .plan .now) (x .output .now) (omega arith)
-    (shown-done (packFor (x .medium) (x .plan .now) n) (x .output .now) (w .last .1 .1 .0) (image-fits (x .medium) (x .plan .now) n)
+    short (x .packing) (x .plan .now) (x .output .now) (omega arith)
+    (shown-done (packFor (x .packing) (x .plan .now) n) (x .output .now) (w .last .1 .1 .0) (image-fits (x .packing) (x .plan .now) n)
     (w .ensures .1) (outcomeIs (w .result)) (w .ensures .0) (s .result) (s .last .1 .0) (s .ensures .0) (s .ensures .1))
     in
     (d .length-is, (d .output-is, d .inside))
