@@ -13,7 +13,7 @@ enum { KIB = 1024, MIB = 1024 * 1024, ROUNDS = 9 };
 
 static uint8_t map[132], ascending[132], mixed[132], *ours, *theirs, *rom, *plan, *image, *out1, *out2, packet[272], reply1[272], reply2[272];
 static uint8_t *old_plan, *new_plan;
-static size_t rom_length, plan_length, image_length, packet_length, old_length, new_length;
+static size_t rom_length, plan_length, image_length, packet_length, old_length, new_length, room;
 static uint64_t outcome1[8], outcome2[8];
 static const uint32_t identity[REIDHINTSJE_IDENTITY_NUMBERS];
 static size_t limit_length;
@@ -40,6 +40,10 @@ static void library_compare(void) { reidhintsje_compare(old_plan, old_length, ne
 static void plain_compare_(void) { plain_compare(old_plan, old_length, new_plan, new_length, out2, 5 * MIB, outcome2); }
 static void library_check(void) { reidhintsje_aplx_check(old_plan, old_length, image, image_length, outcome1); }
 static void plain_check_(void) { plain_aplx_check(old_plan, old_length, image, image_length, outcome2); }
+static void library_share(void) { reidhintsje_pack_aplx_shared(old_plan, old_length, out1, room, outcome1); }
+static void plain_share_(void) { plain_pack_aplx_shared(old_plan, old_length, out2, room, outcome2); }
+/* the same plan with data of its own for each put */
+static void library_own(void) { reidhintsje_pack_aplx(old_plan, old_length, out1, room, outcome1); }
 static void library_scp(void) { reidhintsje_scp_answer(map, 132, ours, SIZE, identity, packet, packet_length, reply1, 272, outcome1); }
 static void plain_scp(void) { plain_scp_answer(map, 132, theirs, SIZE, packet, packet_length, reply2, 272, outcome2); }
 
@@ -298,6 +302,27 @@ static void refusals(uint64_t entries)
     word(image + 16 * (entries - 2), 2);
 }
 
+/* a plan of so many puts of one length, whose contents are equal, but for the byte at this place of each, which is the put's index; with
+ * `length` as the place they are equal. Both are to refuse an output that lacks a byte, and to leave it as it was */
+static void make_shared(uint32_t count, uint32_t length, uint32_t differ_at)
+{
+    old_length = make_pieces(old_plan, count, 1, 0x20000000, length, length);
+    if (differ_at < length)
+        for (uint32_t i = 0; i < count; i++) old_plan[16 + 16 * count + length * i + differ_at] = i;
+    size_t needed = 16 * (count + 1) + (differ_at < length ? count * length : length);
+    uint64_t wanted[8] = {REIDHINTSJE_OUTPUT_TOO_SMALL, count, REIDHINTSJE_REFUSED, 0, 0, 0, 0, needed};
+    room = needed - 1;
+    memset(out1, 7, 5 * MIB);
+    memset(out2, 7, 5 * MIB);
+    library_share();
+    plain_share_();
+    if (memcmp(outcome1, wanted, sizeof wanted) || memcmp(outcome2, wanted, sizeof wanted) || memcmp(out1, out2, 5 * MIB) || out1[0] != 7) {
+        printf("an output too small: %llu and %llu, wanted 10\n", (unsigned long long)outcome1[0], (unsigned long long)outcome2[0]);
+        failed = 1;
+    }
+    room = 5 * MIB;
+}
+
 static void make_packet(uint32_t command, uint32_t address, uint32_t length)
 {
     word(packet, command | 0x00110000);
@@ -393,6 +418,16 @@ int main(void)
     make_checked(8, 64, 32, 32);
     refusals(17);
     row("checking an image of 512 bytes, 17 entries", library_check, plain_check_, 0, 0);
+    make_shared(64, 64 * KIB, 64 * KIB);
+    row("sharing 64 puts of 64 KiB, all equal", library_share, plain_share_, library_own, "the plain packing");
+    make_shared(64, 64 * KIB, 64 * KIB - 1);
+    row("the same, the last byte of each differs", library_share, plain_share_, library_own, "the plain packing");
+    make_shared(64, 64 * KIB, 0);
+    row("the same, the first byte of each differs", library_share, plain_share_, library_own, "the plain packing");
+    make_shared(16, KIB, KIB);
+    row("sharing 16 puts of 1 KiB, all equal", library_share, plain_share_, library_own, "the plain packing");
+    make_shared(64, 32, 0);
+    row("sharing 64 puts of 32 bytes, all different", library_share, plain_share_, library_own, "the plain packing");
     make_packet(2, 0x20000000, 256);
     row("SCP READ of 256 bytes", library_scp, plain_scp, 0, 0);
     make_packet(3, 0x20000000, 256);

@@ -14,6 +14,7 @@ uint32_t plain_scp_answer(const uint8_t *map, size_t map_length, uint8_t *memory
                           size_t packet_length, uint8_t *output, size_t output_length, uint64_t *outcome);
 uint32_t plain_pack_srom(const uint8_t *plan, size_t plan_length, uint8_t *output, size_t output_length, uint64_t *outcome);
 uint32_t plain_pack_aplx(const uint8_t *plan, size_t plan_length, uint8_t *output, size_t output_length, uint64_t *outcome);
+uint32_t plain_pack_aplx_shared(const uint8_t *plan, size_t plan_length, uint8_t *output, size_t output_length, uint64_t *outcome);
 uint32_t plain_aplx_read(const uint8_t *image, size_t image_length, uint8_t *output, size_t output_length, uint64_t *outcome);
 uint32_t plain_compare(const uint8_t *old_plan, size_t old_length, const uint8_t *new_plan, size_t new_length, uint8_t *output,
                        size_t output_length, uint64_t *outcome);

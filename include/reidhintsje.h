@@ -157,6 +157,28 @@ uint32_t reidhintsje_plan_read(const uint8_t *plan, size_t plan_length, uint32_t
 uint32_t reidhintsje_pack_srom(const uint8_t *plan, size_t plan_length, uint8_t *output, size_t output_length, uint64_t *outcome);
 uint32_t reidhintsje_pack_aplx(const uint8_t *plan, size_t plan_length, uint8_t *output, size_t output_length, uint64_t *outcome);
 
+/* Packs a plan as an APLX image that keeps one copy of equal data, at the output's front; the output past the image is left as it was.
+ * PACKED with BYTES. The image of reidhintsje_pack_aplx is called the plain one here.
+ *
+ * Shared is the whole content of a put: puts share if they have the same length and the same bytes, wherever these stand in the plan. No
+ * part of a content is shared, nor the front of a longer one, nor what a fill stores. The entries are those of the plain image, in the same
+ * order; only the offsets of RCOPY may be others. Behind the end entry stands each different content once, in the order in which they first
+ * appear in the plan, with nothing between; every put that has it copies from there. So the image has 16 x (count + 1) bytes and the
+ * lengths of the different contents. It is never longer than the plain one. Where no two contents are equal, it is the plain one.
+ *
+ * The other calls take it as any image. A load of it, from any entry, does what the plan says, as one of the plain image does and under
+ * the same conditions (docs/DEMAND3.md): among them, no destination of the plan meets the image. reidhintsje_aplx_check accepts it for its
+ * plan. reidhintsje_aplx_read reads it back as a plan with the same pieces, in which each put has a copy of its own; this packs to the same
+ * two images, plain and shared, as the first plan.
+ *
+ * Refusals: those of reidhintsje_plan_read with REIDHINTSJE_TARGET_APLX; last, 10 where the image does not fit: PLACE is the count of its
+ * pieces, BYTES the length that this image, not the plain one, has. Room for the plain image is always enough.
+ *
+ * The cost: each put is compared with the different contents before it that have its length, one after the other, until one is equal, and
+ * with each up to the first difference. There are at most 2,016 comparisons, where 64 puts of one length all differ. A call that is refused
+ * with 10 makes them too, for BYTES; it makes them twice where the output has room for the entries. docs/SPEED.md has figures. */
+uint32_t reidhintsje_pack_aplx_shared(const uint8_t *plan, size_t plan_length, uint8_t *output, size_t output_length, uint64_t *outcome);
+
 /* Reads an APLX image back as a plan, at the output's front; the output past the plan is left as it was. The image's header stands at the
  * slice's front; bytes behind its data change nothing. RCOPY becomes put, FILL fill, EXEC run, one piece for each entry up to the first
  * end word; the unused words of EXEC and of the end entry are ignored. The data of an RCOPY stands at (16 x the entry's index + its
@@ -207,7 +229,8 @@ uint32_t reidhintsje_compare(const uint8_t *old_plan, size_t old_length, const u
 
 /* ---- an image checked against a plan: CHECKED
  * Checks the APLX image that another firm's packer wrote of a plan. The image's header stands at the slice's front; other bytes may follow
- * the image. Nothing is written but the outcome. docs/FORMATS.md says what a load of an accepted image does.
+ * the image. Nothing is written but the outcome. docs/FORMATS.md says what a load of an accepted image does. The images of
+ * reidhintsje_pack_aplx and reidhintsje_pack_aplx_shared are accepted for their plans.
  *
  * An image is accepted if it keeps these rules, and only then:
  *   - The entries follow the pieces of the plan, in the plan's order: RCOPY for a put, FILL for a fill, EXEC for a run. Then comes an end

@@ -27,6 +27,9 @@ mod linked {
         pub fn reidhintsje_pack_aplx(
             plan: *const u8, plan_length: usize, output: *mut u8, output_length: usize, outcome: *mut u64,
         ) -> u32;
+        pub fn reidhintsje_pack_aplx_shared(
+            plan: *const u8, plan_length: usize, output: *mut u8, output_length: usize, outcome: *mut u64,
+        ) -> u32;
         pub fn reidhintsje_aplx_read(
             image: *const u8, image_length: usize, output: *mut u8, output_length: usize, outcome: *mut u64,
         ) -> u32;
@@ -266,6 +269,13 @@ pub fn pack_srom(plan: &[u8], output: &mut [u8]) -> Outcome {
 pub fn pack_aplx(plan: &[u8], output: &mut [u8]) -> Outcome {
     call(|outcome| unsafe {
         linked::reidhintsje_pack_aplx(plan.as_ptr(), plan.len(), output.as_mut_ptr(), output.len(), outcome)
+    })
+}
+
+/// Packs a plan as an APLX image that keeps one copy of equal data.
+pub fn pack_aplx_shared(plan: &[u8], output: &mut [u8]) -> Outcome {
+    call(|outcome| unsafe {
+        linked::reidhintsje_pack_aplx_shared(plan.as_ptr(), plan.len(), output.as_mut_ptr(), output.len(), outcome)
     })
 }
 
