@@ -1,4 +1,6 @@
 // Bytes, words and ranges, as the loaders and packers need them. Each function answers for any input.
+#![tactic(auto)]
+
 pub mod read; // numbers out of bytes
 pub mod put; // numbers into bytes
 pub mod turned; // numbers with their bytes the other way round
