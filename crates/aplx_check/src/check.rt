@@ -15,7 +15,7 @@ use plan::piece::{Target, accepted_at, fill_length, put_length};
 const NOT_AS_PLANNED: u32 = 30;
 
 // The image follows the plan; or a refusal, of the plan with a piece's index, or of the image with that of an entry.
-#[derive(Drop)]
+#[derive(Clone, Copy)]
 pub enum Checked {
     Accepted,
     Refused(Refusal),

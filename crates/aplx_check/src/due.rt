@@ -21,7 +21,7 @@ const EXEC: u32 = 4;
 const ADDRESSES: u64 = 4294967296;
 
 // The index of the piece that is due, and how many of its bytes are done.
-#[derive(Drop)]
+#[derive(Clone, Copy)]
 pub(crate) struct Due {
     pub index: u32,
     pub done: usize,

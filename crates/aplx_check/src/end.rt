@@ -12,7 +12,7 @@ const MOST_ENTRIES: usize = 256;
 const END_WORD: u32 = 4294967295;
 
 // The index of the end entry, if there is one.
-#[derive(Drop)]
+#[derive(Clone, Copy)]
 pub(crate) enum End {
     At(u32),
     None,

@@ -4,7 +4,7 @@ ghost use Rattle.aplx_command.specs.Command.{command_of, command_at};
 ghost use Rattle.aplx_command.specs.Code.{command_is};
 
 // Lengths are rounded up, and a source is an address.
-#[derive(Drop)]
+#[derive(Clone, Copy)]
 pub enum Command {
     Copy { to: u32, from: u32, length: u64 },
     Fill { to: u32, length: u64, word: u32 },

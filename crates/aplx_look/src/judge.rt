@@ -15,7 +15,7 @@ use outcome::answer::{NOT_ALIGNED, Refusal, Stop, ZERO_LENGTH};
 // The refusal of an entry whose 16 bytes lie in no readable region.
 const ENTRY_NOT_READABLE: u32 = 6;
 
-#[derive(Drop)]
+#[derive(Clone, Copy)]
 pub(crate) enum Verdict {
     Goes,
     Stops(Stop),

@@ -1,4 +1,6 @@
 // What an APLX load answers. Nothing is stored.
+#![tactic(auto)]
+
 pub mod look; // the whole answer
 pub mod walk; // the walk over the entries, to the stop
 mod judge; // the tests of one entry

@@ -12,14 +12,14 @@ use outcome::answer::{Refusal, Stop};
 // The refusal of 256 entries of which none stops.
 const NO_STOP: u32 = 7;
 
-#[derive(Drop)]
+#[derive(Clone, Copy)]
 pub(crate) enum Ending {
     Stops(Stop),
     Refused(Refusal),
 }
 
 // How the walk ended, after so many entries.
-#[derive(Drop)]
+#[derive(Clone, Copy)]
 pub(crate) struct Walked {
     pub(crate) count: usize,
     pub(crate) ending: Ending,

@@ -18,7 +18,7 @@ const LENGTH_NOT_PACKABLE: u32 = 22;
 const DATA_OUTSIDE: u32 = 23;
 
 // A piece, whose data stands in the image if it is a put; the end; or the number of a refusal.
-#[derive(Drop)]
+#[derive(Clone, Copy)]
 pub(crate) enum Entry {
     Piece(Piece),
     End,

@@ -12,7 +12,7 @@ use plan::piece::{Piece, Target};
 pub(crate) const PIECES: usize = 64;
 
 // How many different contents there are, and how many bytes they have in all.
-#[derive(Drop)]
+#[derive(Clone, Copy)]
 pub(crate) struct Kept {
     pub count: usize,
     pub size: usize,

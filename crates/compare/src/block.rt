@@ -10,7 +10,7 @@ use crate::segment::{Source, byte_at};
 use crate::sides::Sources;
 
 // The address behind a block, and the last bytes at its first address, or what stands for one that is not stored.
-#[derive(Drop)]
+#[derive(Clone, Copy)]
 pub(crate) struct Block {
     pub end: u64,
     pub old: u32,

@@ -26,7 +26,7 @@ pub const NOT_STORED: u32 = 256;
 const TOO_MANY_STRETCHES: u32 = 18;
 
 // The plan that a refusal is about.
-#[derive(Drop)]
+#[derive(Clone, Copy)]
 pub enum Which {
     Neither,
     Old,
@@ -34,7 +34,7 @@ pub enum Which {
 }
 
 // The number of stretches and whether the runs are the same; or a refusal.
-#[derive(Drop)]
+#[derive(Clone, Copy)]
 pub enum Compared {
     Found { count: usize, same_run: bool },
     Refused { which: Which, refusal: Refusal },

@@ -1,4 +1,6 @@
 // Two plans compared.
+#![tactic(auto)]
+
 pub mod compare; // the comparison
 pub mod reading; // which plans can be compared
 mod block; // addresses that differ alike

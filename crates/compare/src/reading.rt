@@ -15,7 +15,7 @@ pub(crate) const ADDRESSES: u64 = 4294967296;
 const PAST_LAST_ADDRESS: u32 = 19;
 
 // The number of pieces, or the refusal.
-#[derive(Drop)]
+#[derive(Clone, Copy)]
 pub enum Reading {
     Pieces { count: u32 },
     Refused(Refusal),

@@ -9,14 +9,14 @@ ghost use Rattle.compare.specs.Code.{run_is};
 
 use plan::piece::{Piece, Target, accepted_at};
 
-#[derive(Drop)]
+#[derive(Clone, Copy)]
 pub(crate) enum Run {
     None,
     At(u32),
 }
 
 // The number of its pieces, and its run.
-#[derive(Drop)]
+#[derive(Clone, Copy)]
 pub(crate) struct Stretch {
     pub count: u32,
     pub run: Run,

@@ -10,7 +10,7 @@ use crate::compare::NOT_STORED;
 use plan::piece::{Piece, Target, accepted_at};
 
 // The addresses of a piece: the first, and the first behind it. A run has none.
-#[derive(Drop)]
+#[derive(Clone, Copy)]
 pub(crate) struct Span {
     pub first: u64,
     pub past: u64,
@@ -45,7 +45,7 @@ fn span_of(piece: Piece) -> Span
 }
 
 // The put or the fill that stores a byte last, if any does. A put's data stands in the plan, from an offset on.
-#[derive(Drop)]
+#[derive(Clone, Copy)]
 pub(crate) enum Source {
     Nothing,
     Put {
@@ -61,7 +61,7 @@ pub(crate) enum Source {
 }
 
 // One source for all addresses up to an end.
-#[derive(Drop)]
+#[derive(Clone, Copy)]
 pub(crate) struct Segment {
     pub source: Source,
     pub end: u64,

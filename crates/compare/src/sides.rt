@@ -8,7 +8,7 @@ use crate::reading::ADDRESSES;
 use crate::segment::{Source, segment_at};
 
 // One source in each plan for all addresses up to an end.
-#[derive(Drop)]
+#[derive(Clone, Copy)]
 pub(crate) struct Sources {
     pub old: Source,
     pub new: Source,

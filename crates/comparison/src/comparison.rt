@@ -21,7 +21,7 @@ pub(crate) const LONGEST_PLAN: usize = 32768;
 pub const LONGEST_TEXT: usize = LINE_SIZE * MOST_STRETCHES + 10;
 
 // The length of the text, and the plan that is refused.
-#[derive(Drop)]
+#[derive(Clone, Copy)]
 pub struct Printed {
     pub size: usize,
     pub refused: Which,

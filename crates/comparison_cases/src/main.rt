@@ -1,4 +1,6 @@
 // Pairs of plans in data/, each compared. second/programs.py makes them and says what each is.
+#![tactic(auto)]
+
 ghost use Rattle.std.specs.Prelude.{◌≤◌, length};
 ghost use Rattle.io.specs.Counts.{IsPrefixLen};
 

@@ -9,7 +9,7 @@ use plan::packed::Answer;
 use plan::piece::PLAN_MALFORMED;
 
 // The image that a plan is packed as: for APLX, for APLX with one copy of equal put data, for a serial ROM.
-#[derive(Drop)]
+#[derive(Clone, Copy)]
 pub enum Packing {
     Aplx,
     SharedAplx,

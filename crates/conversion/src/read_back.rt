@@ -3,7 +3,7 @@ ghost use Rattle.std.specs.Prelude.{◌≡◌, length};
 ghost use Rattle.conversion.specs.Restored.{restored, answer_of, output_of, Inside};
 
 // So many bytes at the output's front, or nothing, where the image has more than 65,536 bytes.
-#[derive(Drop)]
+#[derive(Clone, Copy)]
 pub enum Written {
     Bytes { size: usize },
     TooLong,

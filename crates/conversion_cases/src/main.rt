@@ -1,4 +1,6 @@
 // The plans in data/, each converted to every image, and the images, each read back. second/programs.py makes them and says what each is.
+#![tactic(auto)]
+
 use conversion::convert::Packing;
 use conversion::read_back::Written;
 use libc::STDOUT_FILENO;

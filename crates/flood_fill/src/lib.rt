@@ -1,4 +1,6 @@
 // The flood-fill receiver: an image that is passed along in blocks of words.
+#![tactic(auto)]
+
 pub mod message; // the four messages
 pub mod header; // what was declared, and the block that is open
 pub mod test; // the tests of a message, and the numbers of their refusals

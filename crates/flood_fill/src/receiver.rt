@@ -16,7 +16,7 @@ use outcome::answer::Refusal;
 const PLACES: usize = 256;
 
 // The state: which blocks are done, and of the open block which words came, and the words.
-#[derive(Drop)]
+#[derive(Clone, Copy)]
 pub struct Receiver {
     pub header: Header,
     pub done: [bool; 256],
@@ -26,7 +26,7 @@ pub struct Receiver {
 
 // What a message is answered: refused; done as asked; ignored; a Block End whose block lacks words, with their number and the lowest of
 // them; a Block End that completed its block.
-#[derive(Drop)]
+#[derive(Clone, Copy)]
 pub enum Answer {
     Refused(Refusal),
     Accepted,
@@ -36,7 +36,7 @@ pub enum Answer {
 }
 
 // What a message leaves, beside the image.
-#[derive(Drop)]
+#[derive(Clone, Copy)]
 pub struct Received {
     pub receiver: Receiver,
     pub answer: Answer,

@@ -26,7 +26,7 @@ const MOST_SIZE: u32 = 256;
 const MOST_WORDS: u32 = 8192;
 
 // How the tests of a message end: at a refusal's number, or it passed them all.
-#[derive(Drop)]
+#[derive(Clone, Copy)]
 pub enum Tested {
     Refused(u32),
     Passed,

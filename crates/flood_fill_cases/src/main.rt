@@ -1,5 +1,7 @@
 // The messages in data/messages, given to a receiver that is a struct; writes what each is answered, and the image at the end.
 // second/programs.py makes them. A message is five words: its kind, the bytes of the image that are lent with it, and its numbers.
+#![tactic(auto)]
+
 ghost use Rattle.std.specs.Prelude.{◌≤◌, length};
 
 use flood_fill::message::Message;

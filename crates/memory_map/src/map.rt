@@ -12,34 +12,34 @@ use memory_region::region::{Region, Right, Rights};
 use outcome::answer::{Entry, Refusal};
 
 // Regions 0 to `count` - 1 are in use.
-#[derive(Drop)]
+#[derive(Clone, Copy)]
 pub struct Map {
     pub regions: [Region; 8],
     pub count: usize,
 }
 
-#[derive(Drop)]
+#[derive(Clone, Copy)]
 pub enum Verdict {
     Taken,
     Refused(Refusal),
 }
 
 // What an addition hands back.
-#[derive(Drop)]
+#[derive(Clone, Copy)]
 pub struct Addition {
     pub map: Map,
     pub verdict: Verdict,
 }
 
 // The buffer place of a permitted range, or the number of the refusal.
-#[derive(Drop)]
+#[derive(Clone, Copy)]
 pub enum Found {
     At(usize),
     Refused(u32),
 }
 
 // A legal run entry, or the number of the refusal.
-#[derive(Drop)]
+#[derive(Clone, Copy)]
 pub enum RunEntry {
     Legal(Entry),
     Refused(u32),

@@ -4,14 +4,14 @@ ghost use Rattle.words.specs.Range.{meets};
 ghost use Rattle.memory_region.specs.Region.Follows.{follows};
 ghost use Rattle.memory_region.specs.Region.{allows, keeps_rules, clear, ends_inside, permits, place_in};
 
-#[derive(Drop)]
+#[derive(Clone, Copy)]
 pub struct Rights {
     pub read: bool,
     pub write: bool,
     pub run: bool,
 }
 
-#[derive(Drop)]
+#[derive(Clone, Copy)]
 pub enum Right {
     Read,
     Write,
@@ -19,7 +19,7 @@ pub enum Right {
 }
 
 // `length` addresses from `base` on, which are the buffer's bytes from `place` on.
-#[derive(Drop)]
+#[derive(Clone, Copy)]
 pub struct Region {
     pub base: u32,
     pub length: u32,

@@ -10,21 +10,21 @@ pub const ZERO_LENGTH: u32 = 5;
 pub const OUTPUT_TOO_SMALL: u32 = 10;
 
 // A refusal: its number, and the place of its cause.
-#[derive(Drop)]
+#[derive(Clone, Copy)]
 pub struct Refusal {
     pub number: u32,
     pub place: usize,
 }
 
 // The entry of a run, with the address as written: bit 0 is set in a Thumb entry.
-#[derive(Drop)]
+#[derive(Clone, Copy)]
 pub enum Entry {
     Arm(u32),
     Thumb(u32),
 }
 
 // Why a load stopped. A run has the address from which a next load goes on.
-#[derive(Drop)]
+#[derive(Clone, Copy)]
 pub enum Stop {
     End { place: usize },
     Unknown { command: u32, place: usize },
@@ -32,7 +32,7 @@ pub enum Stop {
 }
 
 // What a load answers: a refusal, or its stop, the entries or blocks before it, and the bytes stored.
-#[derive(Drop)]
+#[derive(Clone, Copy)]
 pub enum Answer {
     Refused(Refusal),
     Accepted {

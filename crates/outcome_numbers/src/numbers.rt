@@ -51,7 +51,7 @@ const THUMB: u64 = 2;
 const SCP_OUTPUT: u64 = 272;
 
 // The parts of an outcome, in the order of the numbers. What a case does not name is 0.
-#[derive(Drop)]
+#[derive(Clone, Copy)]
 pub struct Parts {
     pub refusal: u32,
     pub place: u64,

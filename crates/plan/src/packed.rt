@@ -2,7 +2,7 @@
 use outcome::answer::Refusal;
 
 // The length of the image, or the refusal.
-#[derive(Drop)]
+#[derive(Clone, Copy)]
 pub enum Answer {
     Packed { size: usize },
     Refused(Refusal),

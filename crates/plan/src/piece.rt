@@ -13,7 +13,7 @@ pub const PLAN_MALFORMED: u32 = 11;
 const LENGTH_NOT_EXPRESSIBLE: u32 = 12;
 
 // The medium whose lengths are asked for: multiples of 32, of 4, or any.
-#[derive(Drop)]
+#[derive(Clone, Copy)]
 pub enum Target {
     Aplx,
     Srom,
@@ -21,7 +21,7 @@ pub enum Target {
 }
 
 // A put's data stands in the plan, or in the image that was read back, from an offset on.
-#[derive(Drop)]
+#[derive(Clone, Copy)]
 pub enum Piece {
     Put {
         address: u32,
@@ -39,7 +39,7 @@ pub enum Piece {
 }
 
 // A piece, or the number of its refusal.
-#[derive(Drop)]
+#[derive(Clone, Copy)]
 pub enum Judged {
     Good(Piece),
     Bad(u32),

@@ -7,14 +7,14 @@ use crate::piece::{Judged, PLAN_MALFORMED, Target, fill_length, piece_at, put_le
 use outcome::answer::{CUT_SHORT, Refusal};
 
 // The number of pieces, or the number of the header's refusal, whose place is 0.
-#[derive(Drop)]
+#[derive(Clone, Copy)]
 pub enum Header {
     Good { count: u32 },
     Bad(u32),
 }
 
 // The number of pieces, the sum of the put lengths and that of the fill lengths; or the refusal.
-#[derive(Drop)]
+#[derive(Clone, Copy)]
 pub enum Answer {
     Pieces {
         count: usize,

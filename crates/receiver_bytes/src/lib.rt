@@ -1,4 +1,6 @@
 // A flood-fill receiver as 1,544 bytes that the caller lends: a message changes them where they stand.
+#![tactic(auto)]
+
 pub mod layout; // where the parts stand
 mod flags; // flags, a byte each
 mod read; // what the bytes say

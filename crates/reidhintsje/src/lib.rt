@@ -1,4 +1,6 @@
 // The library for C and Rust: every call takes bytes and numbers and answers in numbers.
+#![tactic(auto)]
+
 pub mod table; // the calls of a map
 pub mod load; // the two loaders
 pub mod plans; // the reader of plans, the packers, the reader of images, and their check

@@ -1,4 +1,6 @@
 // Replays the calls that two files name, and writes what they answer. The head of data/cases says how they are written.
+#![tactic(auto)]
+
 ghost use Rattle.std.specs.Prelude.{◌≡◌, length};
 
 mod output; // text, numbers and bytes

@@ -6,7 +6,7 @@ ghost use Rattle.io.specs.Counts.{IsPrefixLen};
 pub(crate) const NONE: usize = 0xffffffff;
 
 // What was read: the place behind it, or NONE, and its value.
-#[derive(Drop)]
+#[derive(Clone, Copy)]
 pub(crate) struct Got {
     pub next: usize,
     pub value: usize,

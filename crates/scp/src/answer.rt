@@ -10,7 +10,7 @@ use memory_map::refusal::MAP_NOT_SOUND;
 use outcome::answer::{Entry, OUTPUT_TOO_SMALL, Refusal};
 
 // What a VER packet is told.
-#[derive(Drop)]
+#[derive(Clone, Copy)]
 pub struct Identity {
     pub point_to_point: u16,
     pub physical_cpu: u8,
@@ -21,7 +21,7 @@ pub struct Identity {
 
 // What a packet comes to: a refusal; no response; a response of so many bytes at the output's front; a run to be started; or a run
 // at which an APLX load stopped, with the header address of the load that goes on after it.
-#[derive(Drop)]
+#[derive(Clone, Copy)]
 pub enum Reply {
     Refused(Refusal),
     Silent,

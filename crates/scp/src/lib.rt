@@ -1,4 +1,6 @@
 // The SCP answerer.
+#![tactic(auto)]
+
 pub mod answer; // one packet
 mod reply; // the bytes of a response
 mod run; // RUN and APLX

@@ -56,7 +56,7 @@ fn is_other_length(packet: &[u8], write: bool) -> bool
 }
 
 // What the tests of a READ or WRITE packet come to: a return code, or its range is transferred.
-#[derive(Drop)]
+#[derive(Clone, Copy)]
 pub enum Transfer {
     Codes(u16),
     Moves,

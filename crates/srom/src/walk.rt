@@ -16,7 +16,7 @@ const PAD: u8 = 0x55;
 const START: u8 = 0x3a;
 
 // An item that is no pad. A block's data stands from `from` to `to`, where the next item begins.
-#[derive(Drop)]
+#[derive(Clone, Copy)]
 pub(crate) enum Item {
     Block {
         address: u32,

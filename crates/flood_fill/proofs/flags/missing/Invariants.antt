@@ -1,0 +1,11 @@
+use Rattle.flood_fill.specs.Receive.{missing_in}
+use lib.ListN.{length, drop}
+use Prim.Native.Nat.{◌≤◌, ◌+◌, ◌-◌}
+use mathlib.Core.Path.{◌≡◌}
+use Rattle.flood_fill.proofs.flags.missing.Given as goal
+
+abbrev pub invariant-loop-i : goal.invariant-loop-i
+invariant-loop-i l = (l.i ≤ length l.flags) × (l.number ≤ l.i) × (l.number + missing_in (drop l.i l.flags) ≡ missing_in l.flags)
+
+abbrev pub decreases-loop-i : goal.decreases-loop-i
+decreases-loop-i l = length l.flags - l.i
