@@ -18,11 +18,11 @@ returns-then-is_set c image = let w = c in
 
 pub bounds-self-at : goal.bounds-self-at
 bounds-self-at c = let s = c in
-    omega (arith, flag-there s.args.self.marks s.args.word_id (sym c.is_set.ensures ∙ c.if-is_set.false), simp length-map at s.well-formed.0.1.1.1.1.0.1.0.1)
+    omega (arith, flag-there s.args.self.marks s.args.word_id (sym c.is_set.ensures ∙ c.if-is_set.false))
 
 pub bounds-self-at-2 : goal.bounds-self-at-2
 bounds-self-at-2 c = let s = c in
-    omega (arith, flag-there s.args.self.marks s.args.word_id (sym c.is_set.ensures ∙ c.if-is_set.false), simp length-map at s.well-formed.0.1.1.1.1.0.1.0.1)
+    omega (arith, flag-there s.args.self.marks s.args.word_id (sym c.is_set.ensures ∙ c.if-is_set.false))
 
 pub returns : goal.returns
 returns c image = let w = c in

@@ -10,20 +10,20 @@ use Rattle.flood_fill.specs.Receive.Flags.{take_min}
 use Rattle.flood_fill.proofs.receiver.Receiver.block_end.Goals as goal
 
 pub slice_bounds-marks-end : goal.slice_bounds-marks-end
-slice_bounds-marks-end c = omega (arith, c.open_words-used.ensures, simp length-map at c.well-formed.0.1.1.1.1.0.1.0.1)
+slice_bounds-marks-end c = omega (arith, c.open_words-used.ensures)
 
 pub slice_bounds-missing-end : goal.slice_bounds-missing-end
 slice_bounds-missing-end c = let s = c in
     let u = c.open_words-used in
-    omega (arith, u.ensures, length-take u.result s.args.self.marks, simp length-map at s.well-formed.0.1.1.1.1.0.1.0.1)
+    omega (arith, u.ensures, length-take u.result s.args.self.marks)
 
 pub slice_bounds-marks-end-then-number-gt0 : goal.slice_bounds-marks-end-then-number-gt0
-slice_bounds-marks-end-then-number-gt0 c = omega (arith, c.open_words-used.ensures, simp length-map at c.well-formed.0.1.1.1.1.0.1.0.1)
+slice_bounds-marks-end-then-number-gt0 c = omega (arith, c.open_words-used.ensures)
 
 pub slice_bounds-lowest-end : goal.slice_bounds-lowest-end
 slice_bounds-lowest-end c = let s = c in
     let u = c.open_words-used in
-    omega (arith, u.ensures, length-take u.result s.args.self.marks, simp length-map at s.well-formed.0.1.1.1.1.0.1.0.1)
+    omega (arith, u.ensures, length-take u.result s.args.self.marks)
 
 pub overflow_cast-result : goal.overflow_cast-result
 overflow_cast-result c = let s = c in
@@ -41,7 +41,7 @@ returns-then-number-gt0 c = let s = c in
     let u = c in
     let m = s.args.self.marks in
     let e : take u.open_words-used.result m ≡ take (open_size s.args.self.header.opened) m =
-    rw u.open_words-used.ensures (take_min (open_size s.args.self.header.opened) m (simp length-map at s.well-formed.0.1.1.1.1.0.1.0.1))
+    rw u.open_words-used.ensures (take_min (open_size s.args.self.header.opened) m (omega arith))
     in
     simp (
       sym (ap missing_in e) ∙ sym c.missing-number.ensures.0,
@@ -56,10 +56,10 @@ returns c = let s = c in
     let r = s.args.self in
     let n = open_size r.header.opened in
     let e : take u.open_words-used.result r.marks ≡ take n r.marks =
-    rw u.open_words-used.ensures (take_min n r.marks (simp length-map at s.well-formed.0.1.1.1.1.0.1.0.1))
+    rw u.open_words-used.ensures (take_min n r.marks (omega arith))
     in
     let f : take u.open_words-used.result r.words ≡ take n r.words =
-    rw u.open_words-used.ensures (take_min n r.words (simp length-map at s.well-formed.0.1.1.1.1.1.0.1.0.1))
+    rw u.open_words-used.ensures (take_min n r.words (omega arith))
     in
     let z : c.missing-number.result ≡ 0 = omega arith in
     let w = sym (ap missing_in e) ∙ sym c.missing-number.ensures.0 ∙ z in

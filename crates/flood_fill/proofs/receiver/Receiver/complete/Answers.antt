@@ -13,11 +13,11 @@ pub overflow_mul-at-2 : goal.overflow_mul-at-2
 overflow_mul-at-2 c = let x = c.args in let h : x.block ≤ 4294967295 = omega arith in omega (arith, mul-le-mul_right x.self.header.size h)
 
 pub slice_bounds-words-end : goal.slice_bounds-words-end
-slice_bounds-words-end c = let s = c in omega (arith, s.requires, simp length-map at s.well-formed.0.1.1.1.1.1.0.1.0.1)
+slice_bounds-words-end c = let s = c in omega (arith, s.requires)
 
 pub slice_bounds-put_words-end : goal.slice_bounds-put_words-end
 slice_bounds-put_words-end c = let s = c in
-    omega (arith, s.requires, length-take s.args.used s.args.self.words, simp length-map at s.well-formed.0.1.1.1.1.1.0.1.0.1)
+    omega (arith, s.requires, length-take s.args.used s.args.self.words)
 
 pub put_words-requires : goal.put_words-requires
 put_words-requires c = let s = c in omega (arith, s.requires, length-take s.args.used s.args.self.words)
