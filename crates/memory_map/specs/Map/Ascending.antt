@@ -58,9 +58,9 @@ unfolding all_keep_rules
 ascending-keep n a p [] e = refl
 ascending-keep n a p (g ∷ l) e =
     let f = ascends n a p g l e in
-    simp (f.kept, all-clear g l (above n _ _ l f.rest), ascending-keep n _ _ l f.rest)
+    simp (f.kept, all-clear g l (above n _ _ l f.rest), ascending-keep n (g.base + g.length) (g.place + g.length) l f.rest)
 
 pub ascending-inside : (n a p : ℕ) (l : List Region) → ascending n a p l ≡ true → every (ends_inside n) l ≡ true
 unfolding every
 ascending-inside n a p [] e = refl
-ascending-inside n a p (g ∷ l) e = let f = ascends n a p g l e in simp (f.inside, ascending-inside n _ _ l f.rest)
+ascending-inside n a p (g ∷ l) e = let f = ascends n a p g l e in simp (f.inside, ascending-inside n (g.base + g.length) (g.place + g.length) l f.rest)

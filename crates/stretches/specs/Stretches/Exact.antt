@@ -23,6 +23,7 @@ Ends x = All (λ s. s.last < x)
 
 -- ---- in one stretch only
 pub listed-from : (a x : ℕ) (l : List Stretch) → Ordered a l → Listed x l → a ≤ x
+listed-from a x [] o x4 = elim x4 [ ]
 listed-from a x (s ∷ l) o (here p q) = omega (arith, o.0)
 listed-from a x (s ∷ l) o (there h) = let i = listed-from (s.last + 2) x l o.2 h in omega (arith, o.0, o.1)
 
@@ -54,6 +55,7 @@ module _ (t : Stretch) (w : t.first ≤ t.last) where
   -- what was listed still is, and so is all of t
   listed-old : (x : ℕ) (l : List Stretch) → Ends t.first l → Listed x l → Listed x (add t l)
   unfolding add
+  listed-old x [] h i = elim i [ ]
   listed-old x (s ∷ []) h i = go (adjoins s t) i
     where
       go : (b : Bool) → Listed x (s ∷ []) → Listed x (if b then up_to t.last s ∷ [] else s ∷ t ∷ [])
@@ -75,6 +77,7 @@ module _ (t : Stretch) (w : t.first ≤ t.last) where
   -- nothing else is
   only : (x : ℕ) (l : List Stretch) → Listed x (add t l) → Listed x l ⊎ ((t.first ≤ x) × (x ≤ t.last))
   unfolding add
+  only x [] (there i) = elim i [ ]
   only x [] (here p q) = inr (p, q)
   only x (s ∷ []) i = go (adjoins s t) refl i
     where
@@ -131,6 +134,7 @@ module _ (old new : ℕ → ℕ) where
   -- an address that is listed differs
   pub listed-differs : (b x : ℕ) → Listed x (below old new b) → differs old new x ≡ true
   unfolding below
+  listed-differs zero x h = elim h [ ]
   listed-differs (suc y) x h = go (listed-differs y x) (differs old new y) refl h
     where
       go : (Listed x (below old new y) → differs old new x ≡ true) → (b : Bool) → differs old new y ≡ b → Listed x (add_if b (between old new y y) (below old new y)) → differs old new x ≡ true

@@ -26,6 +26,7 @@ not_listed x (s ∷ l) n = go (leb s.first x && leb x s.last) refl (not_listed x
 
 pub listed-once : (a x : ℕ) (l : List Stretch) → Ordered a l → Listed x l → times x l ≡ 1
 unfolding times
+listed-once a x [] o x4 = elim x4 [ ]
 listed-once a x (s ∷ l) o (here p q) = rw (le-leb _ _ p, le-leb _ _ q, not_listed x l (once a x s l o p q))
 listed-once a x (s ∷ l) o (there h) = go (leb s.first x && leb x s.last) refl (listed-once (s.last + 2) x l o.2 h)
   where

@@ -9,7 +9,7 @@ returns-then-c-eq1 c = let x = c.args in simp (eq-eqb x.c 1 c.if-c-eq1.true, c.r
 
 pub returns-then-c-eq2 : goal.returns-then-c-eq2
 unfolding command_of
-returns-then-c-eq2 c = let x = c.args in simp (ne_eqb x.c 1 c.if-c-eq1.false, eq-eqb x.c 2 c.if-c-eq2.true, c.round_up-then-c-eq2.ensures, c.wrapping_add_u32-from.ensures)
+returns-then-c-eq2 c = let x = c.args in simp (ne_eqb x.c 1 c.if-c-eq1.false, eq-eqb x.c 2 c.if-c-eq2.true, c.round_up-then-c-eq2.ensures, c.wrapping_add_u32-from.ensures.value)
 
 pub returns-then-c-eq3 : goal.returns-then-c-eq3
 unfolding command_of
