@@ -13,8 +13,8 @@ loop-i-init c = (refl, omega arith, refl)
 pub loop-i-preserved : goal.loop-i-preserved
 loop-i-preserved c = let l = c.loop-i in (simp length-set l.invariant.0, omega arith, one-more-zero l.flags l.i (omega arith) l.invariant.2)
 
-pub shape_of-flags : goal.shape_of-flags
-shape_of-flags c = c.loop-i.invariant.0
+pub same_length : goal.same_length
+same_length c = c.loop-i.invariant.0
 
 pub returns : goal.returns
 returns c = let l = c.loop-i in

@@ -1,0 +1,13 @@
+use mathlib.Core.Path.{◌≡◌}
+use Prim.Native.Nat.{◌-◌}
+use lib.ListN.{length}
+use Rattle.srom.specs.Load.{store_blocks}
+use Rattle.srom.specs.Walk.{walk}
+use Rattle.memory_map.specs.Lookup.{lookup}
+use Rattle.srom.proofs.store.store_blocks.Given as goal
+
+abbrev pub invariant-loop-place : goal.invariant-loop-place
+invariant-loop-place l = (store_blocks (walk (lookup l.map) l.s l.next).blocks l.memory ≡ store_blocks (walk (lookup l.map) l.s l.offset).blocks l.initial.memory) × (length l.memory ≡ length l.initial.memory)
+
+abbrev pub decreases-loop-place : goal.decreases-loop-place
+decreases-loop-place l = length l.s - l.next
