@@ -8,7 +8,7 @@ use native.Mathlib.Omega.{arith}
 use lib.ListN.{length}
 use Rattle.memory_region.specs.declared.region.Right.TheVariants.{Read}
 use Rattle.memory_map.specs.Lookup.{Lookup, found, place_of}
-use Rattle.memory_map.specs.Lookup.Laws.{Lawful, found_at, found-place}
+use Rattle.memory_map.proofs.LookupLaws.{Lawful, found_at, found-place}
 use Rattle.aplx_command.specs.Command.{Command, command_at}
 use Rattle.aplx_look.specs.Walk.{commands}
 use Rattle.aplx_look.specs.Walk.Laws.{Entry, goes-found, commands-next, commands-end}
@@ -16,7 +16,7 @@ use Rattle.aplx_look.specs.Look.{meets_header}
 use Rattle.aplx_look.specs.Look.Laws.{Ready}
 use Rattle.aplx.specs.Load.{perform, perform_all}
 use Rattle.aplx.specs.Load.Laws.{Performable, goes-performable}
-use Rattle.aplx.specs.Load.Kept.{length-perform, entry_kept}
+use Rattle.aplx.proofs.LoadKept.{length-perform, entry_kept}
 
 -- the command of the entry at address a
 abbrev pub entry_at : Lookup → List ℕ → ℕ → Command

@@ -1,4 +1,3 @@
 -- The APLX loader (paper 01, "APLX"; document 002).
 pub mod Load
 pub mod Open
-pub mod Examples

@@ -1,6 +1,5 @@
 -- The load of an APLX image (paper 01, "APLX").
 pub mod Laws
-pub mod Kept
 use Rattle.std.specs.Prelude.{List, [], ◌∷◌, ℕ, ◌/◌}
 use Rattle.word_blocks.specs.Repeat.{repeated}
 use Rattle.words.specs.Store.{store}

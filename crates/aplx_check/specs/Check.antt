@@ -1,9 +1,4 @@
 -- The check of an APLX image against a plan, entry by entry (paper 02, C-20). `Written.antt` has the rules by themselves.
-pub mod Laws
-pub mod EndEntry
-pub mod Splits
-pub mod Entry
-pub mod Exact
 use Rattle.std.specs.Prelude.{ℕ, zero, suc, ◌+◌, ◌*◌, ◌/◌, ◌%◌, min, Bool, ◌&&◌, List, [], ◌∷◌, length, take, drop, ◌==◌, nat_le, nat_lt}
 use Rattle.words.specs.Choice.{if◌then◌else◌}
 use Rattle.words.specs.Bytes.{little_endian_at}

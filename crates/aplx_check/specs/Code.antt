@@ -1,6 +1,4 @@
 -- What the values of the code's enums and structs say, in the terms of the definitions.
-pub mod Injective
-pub mod Laws
 use Rattle.std.specs.Prelude.{ℕ, ◌+◌, ◌==◌}
 use Rattle.words.specs.Choice.{if◌then◌else◌}
 use Rattle.plan.specs.Packed.{Accepted}

@@ -5,4 +5,3 @@ pub mod Check
 pub mod Refusals
 pub mod Code
 pub mod Open
-pub mod Examples

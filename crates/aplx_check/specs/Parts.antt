@@ -1,5 +1,4 @@
 -- Pieces split into parts (paper 02, C-20): "a put or fill may be split into consecutive parts".
-pub mod Laws
 use Rattle.std.specs.Prelude.{◌≡◌, ℕ, zero, suc, ◌+◌, ◌-◌, ◌%◌, ◌<◌, ◌≤◌, List, [], ◌∷◌, ◌++◌, length, take, drop}
 use Rattle.plan.specs.Plan.{Piece, put, fill, run, address_of}
 

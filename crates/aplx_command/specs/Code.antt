@@ -1,5 +1,4 @@
 -- What the cases of the code's enum say, in the terms of the definitions.
-pub mod Injective
 use Rattle.aplx_command.specs.declared.command.Command as code
 use Rattle.aplx_command.specs.declared.command.Command.TheVariants.{Copy, Fill, Exec, Other}
 use Rattle.aplx_command.specs.Command.{Command, copy, fill, exec, other}

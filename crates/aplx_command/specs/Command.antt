@@ -1,5 +1,4 @@
 -- The entries of an APLX header (paper 01, "APLX").
-pub mod Laws
 use Rattle.std.specs.Prelude.{ℕ, ◌+◌, ◌%◌, List, ◌==◌}
 use Rattle.words.specs.Choice.{if◌then◌else◌}
 use Rattle.words.specs.Bytes.{little_endian_at}

@@ -1,4 +1,3 @@
 -- The copy rule (paper 01, "APLX").
 pub mod Copy
 pub mod Open
-pub mod Examples

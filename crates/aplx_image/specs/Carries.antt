@@ -1,6 +1,5 @@
 -- What an APLX image has to be, whoever made it (document 002; paper 01, "APLX" and "Plans"): its entries say the pieces in order, then
 -- the end, and the data of a put lies where its entry says. No memory and no map; offsets count from the image's first byte.
-pub mod Laws
 use Rattle.std.specs.Prelude.{◌≡◌, List, [], ◌∷◌, ℕ, ◌+◌, ◌%◌, ◌≤◌, length, take, drop}
 use Rattle.words.specs.Bytes.{little_endian_at}
 use Rattle.plan.specs.Plan.{Piece, put, fill, run}

@@ -1,3 +1,2 @@
 -- What an APLX image has to be, whoever made it (document 002, paper 01, "APLX" and "Plans").
 pub mod Carries
-pub mod Examples

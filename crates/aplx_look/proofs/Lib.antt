@@ -1,1 +1,3 @@
+pub mod CodeInjective
+pub mod Examples
 pub mod Looking

@@ -1,5 +1,4 @@
 -- What the cases of the code's enums say, in the terms of the definitions.
-pub mod Injective
 use Rattle.outcome.specs.Outcome.{stop_of, Ending, stops, refuses}
 use Rattle.aplx_look.specs.declared.judge.Verdict as CodeVerdict
 use Rattle.aplx_look.specs.declared.judge.Verdict.TheVariants as verdict

@@ -3,4 +3,3 @@ pub mod Walk
 pub mod Look
 pub mod Code
 pub mod Open
-pub mod Examples

@@ -6,19 +6,19 @@ use native.Mathlib.Omega.{arith}
 use lib.ListN.{length, take, drop, length-drop, take-append-drop, drop_of_length-le}
 use lib.Seq.{length-take-le, take-length}
 use Rattle.words.specs.Four.{four_bytes}
-use Rattle.words.specs.Four.Laws.{length-four_bytes}
+use Rattle.words.proofs.FourLaws.{length-four_bytes}
 use Rattle.words.specs.Store.{store}
-use Rattle.words.specs.Store.Laws.{store-adjoining}
-use Rattle.words.specs.Store.Growing.{front-grows}
+use Rattle.words.proofs.StoreLaws.{store-adjoining}
+use Rattle.words.proofs.StoreGrowing.{front-grows}
 use Rattle.plan.specs.declared.piece.Piece as CodePiece
 use Rattle.plan.specs.Plan.{Piece, put_bytes, datas}
-use Rattle.plan.specs.Plan.Datas.{length-datas}
+use Rattle.plan.proofs.PlanDatas.{length-datas}
 use Rattle.plan.specs.Code.{piece_is}
-use Rattle.plan.specs.Code.Laws.{Found}
-use Rattle.plan.specs.Code.Rows.{data_start, earlier, Written}
+use Rattle.plan.proofs.CodeLaws.{Found}
+use Rattle.plan.proofs.CodeRows.{data_start, earlier, Written}
 use Rattle.aplx_pack.specs.Image.{entry_of, entries, aplx_image}
-use Rattle.aplx_pack.specs.Image.Laws.{length-entries, length-aplx_image, drop-entries}
-use Rattle.aplx_pack.specs.Image.Entry.{entry-through}
+use Rattle.aplx_pack.proofs.ImageLaws.{length-entries, length-aplx_image, drop-entries}
+use Rattle.aplx_pack.proofs.ImageEntry.{entry-through}
 
 -- the entries before piece i
 abbrev pub front : List Piece → ℕ → List ℕ

@@ -1,5 +1,4 @@
 -- What the packer's code writes, in the terms of the definitions.
-pub mod Laws
 use Rattle.std.specs.Prelude.{List, ℕ, ◌-◌}
 use Rattle.words.specs.Four.{four_bytes}
 use Rattle.words.specs.Store.{store}

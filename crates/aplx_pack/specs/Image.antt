@@ -1,7 +1,4 @@
 -- The APLX image of a list of pieces (paper 01, "Plans", last paragraph), and what packing a plan gives.
-pub mod Laws
-pub mod Entry
-pub mod Carried
 use Rattle.std.specs.Prelude.{List, [], ◌∷◌, ◌++◌, ℕ, suc, ◌+◌, ◌*◌, length}
 use Rattle.words.specs.Four.{four_bytes}
 use Rattle.plan.specs.Plan.{Piece, put, fill, run, data_of, datas, read_plan}

@@ -2,4 +2,3 @@
 pub mod Image
 pub mod Code
 pub mod Open
-pub mod Examples

@@ -1,1 +1,9 @@
+pub mod CodeInjective
+pub mod CodeLaws
+pub mod Examples
+pub mod PlanBytesLaws
+pub mod PlanBytesRead
+pub mod ReadBackCarried
+pub mod ReadBackLaws
+pub mod ReadBackTold
 pub mod Writing

@@ -7,17 +7,17 @@ use native.Mathlib.Omega.{arith}
 use lib.ListN.{length, take, drop, length-append}
 use lib.Seq.{length-take-le, take-add, take_at, take_all, take-length}
 use Rattle.words.specs.Four.{four_bytes}
-use Rattle.words.specs.Four.Laws.{length-four_bytes}
+use Rattle.words.proofs.FourLaws.{length-four_bytes}
 use Rattle.words.specs.Store.{store}
-use Rattle.words.specs.Store.Laws.{length-store, store-adjoining, store-over, store-nil}
+use Rattle.words.proofs.StoreLaws.{length-store, store-adjoining, store-over, store-nil}
 use Rattle.plan.specs.declared.piece.Piece as CodePiece
 use Rattle.plan.specs.Plan.{Piece, data_of, put_bytes, datas}
-use Rattle.plan.specs.Plan.Datas.{length-datas}
+use Rattle.plan.proofs.PlanDatas.{length-datas}
 use Rattle.plan.specs.Code.{piece_is}
-use Rattle.plan.specs.Code.Laws.{Found}
-use Rattle.plan.specs.Code.Rows.{data_start, earlier, Written}
+use Rattle.plan.proofs.CodeLaws.{Found}
+use Rattle.plan.proofs.CodeRows.{data_start, earlier, Written}
 use Rattle.aplx_read.specs.PlanBytes.{row_bytes, table, plan_bytes}
-use Rattle.aplx_read.specs.PlanBytes.Laws.{length-row_bytes, length-table, length-plan_bytes, drop-table}
+use Rattle.aplx_read.proofs.PlanBytesLaws.{length-row_bytes, length-table, length-plan_bytes, drop-table}
 
 -- the header
 abbrev pub header : List Piece → List ℕ

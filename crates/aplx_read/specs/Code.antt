@@ -1,6 +1,4 @@
 -- What the cases of the code's enum say, and what the code writes, in the terms of the definitions.
-pub mod Injective
-pub mod Laws
 use Rattle.std.specs.Prelude.{List, ℕ, ◌+◌}
 use Rattle.words.specs.Store.{store}
 use Rattle.plan.specs.Plan.{Piece, data_of, Row, run_row}

@@ -3,4 +3,3 @@ pub mod PlanBytes
 pub mod ReadBack
 pub mod Code
 pub mod Open
-pub mod Examples

@@ -1,7 +1,5 @@
 -- The bytes of a plan with these pieces (paper 02, C-11): "Table directly after the header, then the data of the puts in order." The format
 -- is that of paper 01, "Plans".
-pub mod Laws
-pub mod Read
 use Rattle.std.specs.Prelude.{List, [], ◌∷◌, ◌++◌, ℕ, ◌+◌, ◌*◌, length}
 use Rattle.words.specs.Four.{four_bytes}
 use Rattle.plan.specs.Plan.{Piece, put, fill, run, data_of, put_bytes, datas}

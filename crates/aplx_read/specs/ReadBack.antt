@@ -1,7 +1,4 @@
 -- An APLX image read back as a plan (paper 02, C-11). The image is a slice with the header at offset 0; offsets are whole numbers.
-pub mod Laws
-pub mod Told
-pub mod Carried
 use Rattle.std.specs.Prelude.{not, List, [], ℕ, zero, suc, ◌+◌, ◌*◌, ◌%◌, ltb, leb, eqb, length}
 use Rattle.words.specs.Choice.{if◌then◌else◌}
 use Rattle.words.specs.Bytes.{little_endian_at}

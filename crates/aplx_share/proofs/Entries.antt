@@ -8,10 +8,10 @@ use lib.Seq.{length-take-le}
 use Rattle.words.specs.Four.{four_bytes}
 use Rattle.plan.specs.Plan.{Piece}
 use Rattle.aplx_pack.specs.Image.{entry_of}
-use Rattle.aplx_pack.specs.Image.Entry.{entry-through}
+use Rattle.aplx_pack.proofs.ImageEntry.{entry-through}
 use Rattle.aplx_share.specs.Contents.{kept_contents}
 use Rattle.aplx_share.specs.SharedImage.{place_of, shared_entries}
-use Rattle.aplx_share.specs.SharedImage.Laws.{length-shared_entries, drop-shared_entries}
+use Rattle.aplx_share.proofs.SharedImageLaws.{length-shared_entries, drop-shared_entries}
 
 -- all entries, and the end entry
 abbrev all : List Piece → List ℕ

@@ -1,1 +1,10 @@
+pub mod CollectedLaws
+pub mod CollectedSteps
+pub mod ContentsLaws
+pub mod ContentsPlaces
+pub mod ContentsSteps
+pub mod Examples
+pub mod SharedImageCarried
+pub mod SharedImageLaws
+pub mod SharedImagePlain
 pub mod Entries

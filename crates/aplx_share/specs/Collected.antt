@@ -1,6 +1,4 @@
 -- What the packer's code keeps of a plan, in the terms of the definitions.
-pub mod Laws
-pub mod Steps
 use Rattle.std.specs.Prelude.{◌≡◌, List, [], ◌∷◌, ℕ, ◌+◌, ◌*◌, ◌≤◌, ◌<◌, length, take, drop, get_or}
 use Rattle.plan.specs.Plan.{Piece, put, run}
 use Rattle.aplx_share.specs.declared.contents.Kept.{Kept}

@@ -1,7 +1,4 @@
 -- The contents of a plan's puts, and which of them are kept where equal ones are kept once (paper 02, C-23).
-pub mod Laws
-pub mod Steps
-pub mod Places
 use Rattle.std.specs.Prelude.{◌≡◌, Bool, true, false, List, [], ◌∷◌, ◌++◌, ℕ, ◌+◌, length}
 use Rattle.words.specs.Choice.{if◌then◌else◌}
 use Rattle.words.specs.Equal.{same}

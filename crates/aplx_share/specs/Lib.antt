@@ -3,4 +3,3 @@ pub mod Contents
 pub mod SharedImage
 pub mod Collected
 pub mod Open
-pub mod Examples

@@ -1,7 +1,4 @@
 -- The APLX image that keeps one copy of equal put data (paper 02, C-23), and what packing a plan so gives.
-pub mod Laws
-pub mod Plain
-pub mod Carried
 use Rattle.std.specs.Prelude.{List, [], ◌∷◌, ◌++◌, ℕ, suc, ◌+◌, ◌*◌, length}
 use Rattle.words.specs.Four.{four_bytes}
 use Rattle.plan.specs.Plan.{Piece, put, fill, run, read_plan}

@@ -1,10 +1,8 @@
 -- What the code's answers say, in the terms of the definitions, and what it asks of plans that it reads.
-pub mod Injective
 pub mod Segment
 pub mod Laws
 pub mod Block
 pub mod Collected
-pub mod Answers
 use Rattle.std.specs.Prelude.{◌≡◌, Bool, List, ℕ, ◌+◌, ◌*◌, ◌≤◌, ◌<◌, eqb, length}
 use Rattle.plan.specs.Plan.{Read, refused, pieces}
 use Rattle.plan.specs.Packed.{plan_pieces, Accepted}

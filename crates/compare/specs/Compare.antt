@@ -1,8 +1,4 @@
 -- Two plans compared (paper 02, C-18).
-pub mod Laws
-pub mod Output
-pub mod Small
-pub mod Examples
 use Rattle.std.specs.Prelude.{Bool, List, [], ◌∷◌, ◌++◌, ℕ, ◌*◌, ltb, length}
 use Rattle.words.specs.Choice.{if◌then◌else◌}
 use Rattle.words.specs.Four.{four_bytes}

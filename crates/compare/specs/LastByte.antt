@@ -2,7 +2,6 @@
 pub mod Laws
 pub mod Segment
 pub mod Exact
-pub mod Meaning
 use Rattle.std.specs.Prelude.{Bool, ◌&&◌, List, [], ◌∷◌, ℕ, ◌+◌, ◌-◌, leb, ltb, length, get_or}
 use Rattle.words.specs.Choice.{if◌then◌else◌}
 use Rattle.plan.specs.Plan.{Piece, address_of}

@@ -1,7 +1,5 @@
 -- Which plans can be compared, and what of them is (paper 02, C-18).
-pub mod Laws
 pub mod Stretch
-pub mod Bytes
 use Rattle.std.specs.Prelude.{Bool, true, false, List, [], ◌∷◌, ℕ, zero, suc, ◌+◌, ◌≤◌, ltb, eqb, length}
 use Rattle.words.specs.Choice.{if◌then◌else◌}
 use Rattle.plan.specs.Plan.{Piece, put, fill, run, Row, put_row, fill_row, run_row, Judged, good, bad, piece_at, Read, pieces, next, judge_header, headed}

@@ -1,7 +1,3 @@
 -- What is claimed of two plans that are compared (paper 02, C-18).
 pub mod Claims
 pub mod Refusals
-pub mod Proof
-pub mod Ours
-pub mod Signer
-pub mod Refuted

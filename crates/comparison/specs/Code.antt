@@ -1,5 +1,4 @@
 -- What the code's answers say, in the terms of the definitions.
-pub mod Laws
 use Rattle.std.specs.Prelude.{◌≡◌, List, ℕ, ◌≤◌, length}
 use Rattle.words.specs.Store.{store}
 use Rattle.compare.specs.Compare.{Compared, refuses, finds, most_stretches}

@@ -1,7 +1,6 @@
 -- What the program `compare_plans` writes for the files `old` and `new` (paper 02, C-18).
 pub mod Laws
 pub mod Stretches
-pub mod Examples
 use Rattle.std.specs.Prelude.{Bool, true, false, List, [], ◌∷◌, ◌++◌, ℕ, ltb, eqb, length}
 use Rattle.words.specs.Choice.{if◌then◌else◌}
 use Rattle.text.specs.Hex.{hex}

@@ -1,5 +1,4 @@
 -- What the programs `plan_to_aplx`, `plan_to_shared_aplx` and `plan_to_srom` write for the plan that they read.
-pub mod Laws
 use Rattle.std.specs.Prelude.{◌≡◌, List, ℕ, ◌≤◌, ltb, length}
 use Rattle.words.specs.Choice.{if◌then◌else◌}
 use Rattle.words.specs.Store.{store}

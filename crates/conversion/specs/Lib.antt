@@ -2,4 +2,3 @@
 pub mod Shown
 pub mod Conversion
 pub mod Restored
-pub mod Examples

@@ -2,7 +2,6 @@
 -- to 32,768 bytes (a longer plan is refusal 10, place the piece count), so that what it writes can be packed and compared. A refused image
 -- gives only the line `refused N at P` and a newline. An input longer than 65,536 bytes gets one line on standard error and nothing on
 -- standard output, since no number of the table is its cause.
-pub mod Laws
 use Rattle.std.specs.Prelude.{◌≡◌, List, ℕ, ◌≤◌, ltb, length}
 use Rattle.io.specs.Counts.{IsPrefixLen}
 use Rattle.words.specs.Choice.{if◌then◌else◌}

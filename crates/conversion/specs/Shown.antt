@@ -1,5 +1,4 @@
 -- What a program shows of what was packed or read back: its bytes, or the line of a refusal.
-pub mod Laws
 use Rattle.std.specs.Prelude.{List, ℕ, length}
 use Rattle.words.specs.Store.{store}
 use Rattle.plan.specs.Packed.{Packed, refuses, packs, Outcome, refusal, sized}

@@ -1,5 +1,4 @@
 -- What a message is answered (paper 02, C-14), and what each case of the code's answer says in these terms.
-pub mod Injective
 use Rattle.std.specs.Prelude.{ℕ}
 use Rattle.flood_fill.specs.declared.receiver.Answer as code
 use Rattle.flood_fill.specs.declared.receiver.Answer.TheVariants.{Refused, Accepted, Ignored, Missing, Done}

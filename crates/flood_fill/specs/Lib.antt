@@ -3,4 +3,3 @@ pub mod Limits
 pub mod Refusals
 pub mod Answer
 pub mod Receive
-pub mod Examples

@@ -1,5 +1,4 @@
 -- What a Start may declare, and the sizes of its blocks (paper 02, C-14).
-pub mod Laws
 use Rattle.std.specs.Prelude.{Bool, ◌&&◌, ℕ, suc, ◌*◌, leb, eqb}
 use Rattle.words.specs.Choice.{if◌then◌else◌}
 

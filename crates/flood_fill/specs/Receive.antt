@@ -1,6 +1,4 @@
 -- What a message does to the receiver and to the lent image, and what it is answered (paper 02, C-14).
-pub mod Laws
-pub mod Flags
 use Rattle.std.specs.Prelude.{◌≡◌, Bool, true, false, not, ◌&&◌, List, [], ◌∷◌, ◌++◌, ℕ, suc, ◌*◌, ltb, length, take, get_or, set, replicate}
 use Rattle.words.specs.Choice.{if◌then◌else◌}
 use Rattle.words.specs.Bytes.{little_endian}

@@ -1,5 +1,4 @@
 -- The tests of a message (paper 02, C-14): "Tested before all that, in this order, refused with 24 to 29 and changing nothing".
-pub mod Laws
 use Rattle.std.specs.Prelude.{Bool, false, ◌&&◌, ℕ, suc, ◌*◌, ltb, leb, eqb}
 use Rattle.words.specs.Choice.{if◌then◌else◌}
 use Rattle.flood_fill.specs.declared.message.Message.{Message}

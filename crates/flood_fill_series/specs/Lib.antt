@@ -1,6 +1,2 @@
 -- Series of messages to a flood-fill receiver, and what paper 02 (C-14) says of them.
 pub mod Claims
-pub mod Ours
-pub mod Examples
-pub mod Proof
-pub mod Refuted

@@ -1,4 +1,3 @@
 -- A map as a table of bytes that the caller lends.
 pub mod Table
-pub mod Examples
 pub mod Open

@@ -1,8 +1,5 @@
 -- A map as a table of bytes that the caller lends: 132 bytes, Little Endian words. Word 0 is the count of regions; behind it stand eight
 -- regions of four words each, base, length, place and rights.
-pub mod Laws
-pub mod Written
-pub mod Put
 use Rattle.std.specs.Prelude.{Bool, true, false, not, List, [], ◌∷◌, ◌++◌, ℕ, zero, suc, ◌+◌, ◌/◌, ◌%◌, ltb, eqb, length, replicate}
 use Rattle.words.specs.Choice.{if◌then◌else◌}
 use Rattle.words.specs.Bytes.{little_endian, little_endian_at}

@@ -1,6 +1,5 @@
 -- What paper 02, C-24, claims of one plan on either medium: a statement about any software. `Ours.antt` says that it holds of every software
 -- of which demand 3 holds, and so of ours; `Refuted` says that it is false of wrong software.
-pub mod Laws
 use Rattle.std.specs.Prelude.{◌≡◌, false, List, [], ◌∷◌, ℕ, length, drop, get_or}
 use Rattle.words.specs.Bytes.{Bytes}
 use Rattle.words.specs.Range.{meets}

@@ -1,5 +1,2 @@
 -- One plan, loaded from either medium (paper 02, C-24).
 pub mod Claims
-pub mod Proof
-pub mod Ours
-pub mod Refuted

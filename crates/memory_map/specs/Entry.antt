@@ -1,5 +1,4 @@
 -- Run addresses (paper 01, "Memory map", third paragraph).
-pub mod Injective
 use Rattle.std.specs.Prelude.{Bool, false, ℕ, ◌-◌, ◌%◌, eqb}
 use Rattle.words.specs.Choice.{if◌then◌else◌}
 use Rattle.memory_region.specs.declared.region.Right.TheVariants.{Run}

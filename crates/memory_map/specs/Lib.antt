@@ -3,4 +3,3 @@ pub mod Map
 pub mod Lookup
 pub mod Entry
 pub mod Open
-pub mod Examples

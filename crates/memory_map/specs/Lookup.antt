@@ -1,6 +1,4 @@
 -- Lookup (paper 01, "Memory map"): the buffer place of a permitted range. `lookup` is shut; its laws stand below it.
-pub mod Laws
-pub mod Injective
 use Rattle.std.specs.Prelude.{Bool, true, false, List, [], ◌∷◌, ℕ}
 use Rattle.words.specs.Choice.{if◌then◌else◌}
 use Rattle.memory_region.specs.declared.region.Region.{Region}

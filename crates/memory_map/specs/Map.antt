@@ -1,8 +1,5 @@
 -- The map (paper 01, "Memory map").
-pub mod Laws
 pub mod Ascending
-pub mod Injective
-pub mod Added
 use Rattle.std.specs.Prelude.{Bool, true, false, ◌&&◌, List, [], ◌∷◌, ℕ, ◌+◌, leb, take, set, get_or, replicate}
 use Rattle.words.specs.Choice.{if◌then◌else◌, every}
 use Rattle.memory_region.specs.declared.region.Region.{Region}

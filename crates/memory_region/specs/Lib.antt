@@ -1,3 +1,2 @@
 -- One region of memory (paper 01, "Memory map").
 pub mod Region
-pub mod Examples

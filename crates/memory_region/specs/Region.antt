@@ -1,5 +1,4 @@
 -- One region (paper 01, "Memory map"). Sums are whole numbers.
-pub mod Laws
 pub mod Follows
 use Rattle.std.specs.Prelude.{Bool, not, ◌&&◌, ℕ, ◌+◌, ◌-◌, ◌%◌, leb, ltb, eqb}
 use Rattle.words.specs.Range.{meets}

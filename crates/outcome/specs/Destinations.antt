@@ -1,5 +1,4 @@
 -- The destinations of a load, and how many bytes it stores (paper 01, "APLX", last paragraph).
-pub mod Laws
 use Rattle.std.specs.Prelude.{List, [], ◌∷◌, ℕ, ◌+◌}
 
 -- a destination: so many addresses from one on

@@ -1,4 +1,3 @@
 -- What a load answers (paper 01, "Refusal numbers" and "Memory map", last paragraph).
 pub mod Outcome
 pub mod Destinations
-pub mod Examples

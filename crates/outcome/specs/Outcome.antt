@@ -1,7 +1,5 @@
 -- What a load answers, in the terms of paper 01 ("Memory map", last paragraph; "Refusal numbers"; "APLX", last paragraph),
 -- and what each case of the code's answer says in these terms.
-pub mod Injective
-pub mod Laws
 use Rattle.std.specs.Prelude.{List, ℕ}
 use Rattle.outcome.specs.declared.answer.Entry.{Entry}
 use Rattle.outcome.specs.declared.answer.Entry.TheVariants.{Arm, Thumb}

@@ -1,3 +1,2 @@
 -- Outcomes as eight numbers, for a caller that takes no enum.
 pub mod Numbers
-pub mod Examples

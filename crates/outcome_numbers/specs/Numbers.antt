@@ -1,6 +1,5 @@
 -- Outcomes as eight numbers, for a caller that takes no enum: one layout for every call. What a case does not name is 0.
 pub mod Laws
-pub mod Injective
 use Rattle.std.specs.Prelude.{Bool, true, false, List, [], ◌∷◌, ℕ, ◌*◌, eqb, get_or}
 use Rattle.words.specs.Choice.{if◌then◌else◌}
 use Rattle.outcome.specs.Outcome as load

@@ -1,1 +1,15 @@
+pub mod CodeCounting
+pub mod CodeInjective
+pub mod CodeLaws
+pub mod CodePackerLaws
+pub mod CodeRows
+pub mod Examples
+pub mod MeaningLaws
+pub mod PackedLaws
+pub mod PlanAccepts
+pub mod PlanDatas
+pub mod PlanLaws
+pub mod PlanSteps
+pub mod PlanSums
+pub mod PlanUnit
 pub mod Reading

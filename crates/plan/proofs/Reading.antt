@@ -5,9 +5,9 @@ use Prim.Native.Nat.{ℕ, ◌+◌, ◌-◌, ◌≤◌, ◌<◌}
 use native.Mathlib.Omega.{arith}
 use lib.ListN.{length}
 use Rattle.plan.specs.Plan.{data_of, filled_by, Row, piece_in, good, bad, piece_at, read_pieces}
-use Rattle.plan.specs.Plan.Steps.{read-good, read-bad, read-end}
+use Rattle.plan.proofs.PlanSteps.{read-good, read-bad, read-end}
 use Rattle.plan.specs.Code.{refuses, reads, outcome_of}
-use Rattle.plan.specs.Code.Counting.{outcome_after, after_none, after-piece, after-all}
+use Rattle.plan.proofs.CodeCounting.{outcome_after, after_none, after-piece, after-all}
 
 -- reading k pieces, at the start and at the piece with index i
 pub counts_start : (unit : ℕ) (s : List ℕ) (k : ℕ) → outcome_after 0 0 0 (read_pieces unit s (k - 0) 0) ≡ outcome_of (read_pieces unit s k 0)

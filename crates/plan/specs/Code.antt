@@ -1,9 +1,5 @@
 -- What the cases of the code's enums say, in the terms of the definitions.
 pub mod Packer
-pub mod Injective
-pub mod Laws
-pub mod Rows
-pub mod Counting
 use Rattle.std.specs.Prelude.{List, ℕ, length}
 use Rattle.plan.specs.declared.piece.Target.{Target}
 use Rattle.plan.specs.declared.piece.Target.TheVariants.{Aplx, Srom, Any}

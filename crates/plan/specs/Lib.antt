@@ -5,4 +5,3 @@ pub mod Meaning
 pub mod Packed
 pub mod Code
 pub mod Open
-pub mod Examples

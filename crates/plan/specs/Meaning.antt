@@ -1,5 +1,4 @@
 -- What a plan means, from its pieces, the map's lookup and memory alone (paper 01, "Plans").
-pub mod Laws
 use Rattle.std.specs.Prelude.{◌≡◌, List, [], ◌∷◌, ℕ, suc, length, drop}
 use Rattle.word_blocks.specs.Repeat.{filling}
 use Rattle.words.specs.Choice.{All}

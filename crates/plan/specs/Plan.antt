@@ -1,10 +1,4 @@
 -- The format of a plan and its reader (paper 01, "Plans"). Offsets and sums are whole numbers.
-pub mod Steps
-pub mod Laws
-pub mod Accepts
-pub mod Unit
-pub mod Sums
-pub mod Datas
 use Rattle.std.specs.Prelude.{not, ◌&&◌, List, [], ◌∷◌, ◌++◌, ℕ, zero, suc, ◌+◌, ◌*◌, ◌%◌, ltb, eqb, length, take, drop}
 use Rattle.words.specs.Choice.{if◌then◌else◌}
 use Rattle.words.specs.Bytes.{little_endian_at}

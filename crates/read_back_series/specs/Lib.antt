@@ -1,6 +1,3 @@
 -- An image that is read back as a plan, and what paper 02 (C-11) claims of it.
 pub mod Claims
-pub mod Proof
-pub mod Ours
 pub mod Exact
-pub mod Refuted

@@ -1,4 +1,2 @@
 -- A flood-fill receiver as bytes that the caller lends.
 pub mod Receiver
-pub mod Examples
-pub mod Series

@@ -1,3 +1,2 @@
 -- The library for C and Rust: what each call gives.
 pub mod Calls
-pub mod Examples

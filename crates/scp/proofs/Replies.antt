@@ -5,7 +5,7 @@ use Prim.Native.Nat.{ℕ, ◌+◌, ◌≤◌}
 use native.Mathlib.Omega.{arith}
 use lib.ListN.{length, length-append}
 use Rattle.words.specs.Store.{store, store_if_fits}
-use Rattle.words.specs.Store.Laws.{store-behind}
+use Rattle.words.proofs.StoreLaws.{store-behind}
 
 -- out with the n bytes d at its front is r
 pub record Put (out d : List ℕ) (n : ℕ) (r : List ℕ) : Type 0 where

@@ -9,11 +9,11 @@ use Rattle.memory_region.specs.declared.region.Right.{Right}
 use Rattle.memory_map.specs.declared.map.Found as code
 use Rattle.memory_map.specs.Lookup.{Lookup, found_of}
 use Rattle.words.specs.Store.{store, store_if_fits}
-use Rattle.words.specs.Store.Laws.{length-store, store-fits, store-adjoining}
+use Rattle.words.proofs.StoreLaws.{length-store, store-fits, store-adjoining}
 use Rattle.scp.specs.Answer.{Reply, responds, Reaction, Answered, respond, coded, answered}
-use Rattle.scp.specs.Answer.Laws.{coded-answer}
+use Rattle.scp.proofs.AnswerLaws.{coded-answer}
 use Rattle.scp.specs.Reply.{header}
-use Rattle.scp.specs.Reply.Laws.{length-header}
+use Rattle.scp.proofs.ReplyLaws.{length-header}
 use Rattle.scp_packet.specs.Packet.{data_of, OK}
 
 -- the lookup of an address and a length that the code read from the packet

@@ -1,5 +1,4 @@
 -- What a packet is answered (paper 01, "SCP").
-pub mod Laws
 use Rattle.std.specs.Prelude.{true, false, not, List, [], ◌++◌, ℕ, ◌+◌, ltb, eqb, length, take, drop}
 use Rattle.words.specs.Choice.{if◌then◌else◌}
 use Rattle.words.specs.Store.{store}

@@ -1,5 +1,4 @@
 -- What the cases of the code's answer say, in the terms of paper 01.
-pub mod Injective
 use Rattle.outcome.specs.Outcome.{kind_of, address_of}
 use Rattle.scp.specs.declared.answer.Reply as code
 use Rattle.scp.specs.declared.answer.Reply.TheVariants.{Refused, Silent, Response, Run, Load}

@@ -3,4 +3,3 @@ pub mod Reply
 pub mod Answer
 pub mod Code
 pub mod Open
-pub mod Examples

@@ -1,5 +1,4 @@
 -- The bytes of a response (paper 01, "SCP").
-pub mod Laws
 use Rattle.std.specs.Prelude.{List, [], ◌∷◌, ◌++◌, ℕ, ◌+◌, ◌*◌, take, drop}
 use Rattle.words.specs.Bytes.{little_endian}
 use Rattle.scp_packet.specs.Packet.{OK}

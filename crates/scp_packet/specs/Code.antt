@@ -1,5 +1,4 @@
 -- What the cases of the code's enum say, in the terms of paper 01.
-pub mod Injective
 use Rattle.scp_packet.specs.declared.packet.Transfer as code
 use Rattle.scp_packet.specs.declared.packet.Transfer.TheVariants.{Codes, Moves}
 use Rattle.scp_packet.specs.Transfer.{Transfer, codes, moves}

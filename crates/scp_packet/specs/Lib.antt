@@ -2,4 +2,3 @@
 pub mod Packet
 pub mod Transfer
 pub mod Code
-pub mod Examples

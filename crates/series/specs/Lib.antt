@@ -4,6 +4,3 @@ pub mod Medium
 pub mod Software
 pub mod Demand
 pub mod Resume
-pub mod Examples
-pub mod Proof
-pub mod Refuted

@@ -1,5 +1,4 @@
 -- A series of loads, with what the called code writes between them (paper 01, "Plans", demand 3).
-pub mod Laws
 use Rattle.std.specs.Prelude.{List, [], ◌∷◌, ℕ, set}
 use Rattle.outcome.specs.Outcome.{Ending}
 

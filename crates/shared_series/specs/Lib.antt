@@ -2,7 +2,3 @@
 pub mod Claims
 pub mod Layout
 pub mod Software
-pub mod Proof
-pub mod Ours
-pub mod Determined
-pub mod Refuted

@@ -1,1 +1,6 @@
+pub mod CodeInjective
+pub mod Examples
+pub mod LoadLaws
+pub mod WalkItems
+pub mod WalkLaws
 pub mod Loops

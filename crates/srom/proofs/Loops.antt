@@ -10,7 +10,7 @@ use Rattle.outcome.specs.Outcome.{Outcome, Ending, outcome_at}
 use Rattle.outcome.specs.Destinations.{stored_in}
 use Rattle.memory_map.specs.Lookup.{Lookup}
 use Rattle.srom.specs.Walk.{Block, block_in, block, halt, item_at, Walk, walk, pads_end}
-use Rattle.srom.specs.Walk.Laws.{BlockFacts, block-facts, walk_block, walk-halt, walk-pads, pads-low}
+use Rattle.srom.proofs.WalkLaws.{BlockFacts, block-facts, walk_block, walk-halt, walk-pads, pads-low}
 use Rattle.srom.specs.Load.{destinations, store_blocks, outcome_of_walk}
 
 -- the outcome of a walk, after t blocks and n bytes before it

@@ -1,5 +1,4 @@
 -- What the code's enum for an item says, in the terms of the walk.
-pub mod Injective
 use Rattle.outcome.specs.Outcome.{stop_of, stops, refuses}
 use Rattle.srom.specs.declared.walk.Item as code
 use Rattle.srom.specs.declared.walk.Item.TheVariants.{Block, Halt, Refused}

@@ -3,4 +3,3 @@ pub mod Walk
 pub mod Load
 pub mod Code
 pub mod Open
-pub mod Examples

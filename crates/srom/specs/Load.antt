@@ -1,5 +1,4 @@
 -- The load of a serial ROM (paper 01, "Serial ROM").
-pub mod Laws
 use Rattle.std.specs.Prelude.{List, [], ◌∷◌, ℕ, ltb, length}
 use Rattle.words.specs.Choice.{if◌then◌else◌}
 use Rattle.words.specs.Store.{store}

@@ -1,6 +1,4 @@
 -- The blocks of a serial ROM, tested one after the other up to the stop (paper 01, "Serial ROM"). Nothing is stored.
-pub mod Items
-pub mod Laws
 use Rattle.std.specs.Prelude.{not, List, [], ◌∷◌, ℕ, zero, suc, ◌+◌, ◌-◌, ◌*◌, ◌%◌, leb, ltb, eqb, length, take, drop, get_or}
 use Rattle.words.specs.Choice.{if◌then◌else◌}
 use Rattle.words.specs.Bytes.{big_endian_at}

@@ -1,2 +1,4 @@
+pub mod Examples
+pub mod ImageLaws
 pub mod Packing
 pub mod Writing

@@ -7,14 +7,14 @@ use native.Mathlib.Omega.{arith}
 use lib.ListN.{length, take, drop, set, length-append, take-append-drop}
 use lib.Seq.{take-length}
 use Rattle.words.specs.Store.{store}
-use Rattle.words.specs.Store.Laws.{length-store, store-adjoining, sets-store, store-nil}
+use Rattle.words.proofs.StoreLaws.{length-store, store-adjoining, sets-store, store-nil}
 use Rattle.plan.specs.declared.piece.Piece as CodePiece
 use Rattle.plan.specs.Plan.{Piece}
 use Rattle.plan.specs.Packed.{plan_pieces}
 use Rattle.plan.specs.Code.{put_length, fill_length, piece_is}
-use Rattle.plan.specs.Code.Laws.{Found}
+use Rattle.plan.proofs.CodeLaws.{Found}
 use Rattle.srom_pack.specs.Image.{block_of, blocks, srom_image, block_at}
-use Rattle.srom_pack.specs.Image.Laws.{bytes_of, blocks-append, next-block, end-place}
+use Rattle.srom_pack.proofs.ImageLaws.{bytes_of, blocks-append, next-block, end-place}
 
 -- ---- the next block
 module _ {s : List ℕ} {i : ℕ} {p : CodePiece.Piece} (f : Found 4 s (plan_pieces 4 s) i p) where

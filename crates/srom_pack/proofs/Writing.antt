@@ -5,11 +5,11 @@ use Prim.Native.Nat.{ℕ, ◌+◌, ◌/◌, ◌≤◌}
 use native.Mathlib.Omega.{arith}
 use lib.ListN.{length, set, length-append}
 use Rattle.words.specs.Bytes.{big_endian}
-use Rattle.words.specs.Bytes.Laws.{length-big_endian}
+use Rattle.words.proofs.BytesLaws.{length-big_endian}
 use Rattle.words.specs.Store.{store, store_if_fits}
-use Rattle.words.specs.Store.Laws.{store-behind, sets-store}
+use Rattle.words.proofs.StoreLaws.{store-behind, sets-store}
 use Rattle.word_blocks.specs.Swap.{swap_words}
-use Rattle.word_blocks.specs.Swap.Laws.{length-swap}
+use Rattle.word_blocks.proofs.SwapLaws.{length-swap}
 use Rattle.srom_pack.specs.Image.{block}
 
 -- start byte, length in words, address

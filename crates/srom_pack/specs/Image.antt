@@ -1,5 +1,4 @@
 -- The serial ROM image of a list of pieces (paper 01, "Plans", last paragraph), and what packing a plan gives.
-pub mod Laws
 use Rattle.std.specs.Prelude.{List, [], ◌∷◌, ◌++◌, ℕ, suc, ◌/◌, length, take}
 use Rattle.words.specs.Bytes.{big_endian}
 use Rattle.word_blocks.specs.Repeat.{filling}

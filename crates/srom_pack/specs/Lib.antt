@@ -1,4 +1,3 @@
 -- The serial ROM image of a plan (paper 01, "Plans").
 pub mod Image
 pub mod Open
-pub mod Examples

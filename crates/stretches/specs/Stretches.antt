@@ -1,10 +1,5 @@
 -- Stretches of addresses at which two images differ (paper 02, C-18). An image is a value for each address.
-pub mod Laws
-pub mod Exact
-pub mod Unique
-pub mod Exchanged
 pub mod Words
-pub mod Examples
 use Rattle.std.specs.Prelude.{Bool, true, false, not, ◌&&◌, List, [], ◌∷◌, ℕ, zero, suc, ◌+◌, ◌≤◌, leb, eqb}
 use Rattle.words.specs.Choice.{if◌then◌else◌}
 

@@ -1,5 +1,4 @@
 -- A number in decimal digits, as bytes of text.
-pub mod Laws
 use Rattle.std.specs.Prelude.{List, ℕ, zero, suc, ◌+◌, ◌/◌, eqb}
 use Rattle.words.specs.Choice.{if◌then◌else◌}
 use Rattle.text.specs.Digits.{digits}

@@ -1,5 +1,4 @@
 -- The digits of a number in a base up to 16, as bytes of text.
-pub mod Laws
 use Rattle.std.specs.Prelude.{List, [], ◌∷◌, ◌++◌, ℕ, zero, suc, ◌+◌, ◌/◌, ◌%◌, ltb}
 use Rattle.words.specs.Choice.{if◌then◌else◌}
 

@@ -1,5 +1,4 @@
 -- The line that a program writes for a refusal.
-pub mod Laws
 use Rattle.std.specs.Prelude.{◌≡◌, refl, List, [], ◌∷◌, ◌++◌, ℕ, leb, length}
 use Rattle.words.specs.Choice.{if◌then◌else◌}
 use Rattle.text.specs.Digits.{digits}

@@ -1,5 +1,4 @@
 -- A word repeated, and cut at a length in bytes.
-pub mod Laws
 use Rattle.std.specs.Prelude.{List, [], ◌++◌, ℕ, zero, suc, take}
 use Rattle.words.specs.Bytes.{little_endian}
 

@@ -1,5 +1,4 @@
 -- The four bytes of each word the other way round: what makes a Big Endian word a Little Endian one.
-pub mod Laws
 use Rattle.std.specs.Prelude.{List, [], ◌∷◌, ℕ}
 
 -- bytes behind the last whole word stay as they are

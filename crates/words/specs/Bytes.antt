@@ -1,6 +1,4 @@
 -- Numbers as bytes, over the width in bytes: a halfword has 2, a word has 4. A byte is a number below 256.
-pub mod Laws
-pub mod Padded
 use Rattle.std.specs.Prelude.{List, [], ◌∷◌, reverse, ℕ, zero, suc, ◌+◌, ◌*◌, ◌/◌, ◌%◌, ◌<◌, drop}
 use Rattle.words.specs.Choice.{All}
 

@@ -1,5 +1,4 @@
 -- Definitions by cases, and properties of every element of a list.
-pub mod Laws
 use Rattle.std.specs.Prelude.{Bool, true, false, ◌&&◌, List, [], ◌∷◌}
 
 infixr 5 if◌then◌else◌

@@ -1,5 +1,4 @@
 -- Whether two lists of bytes are equal.
-pub mod Laws
 use Rattle.std.specs.Prelude.{Bool, true, false, ◌&&◌, List, [], ◌∷◌, ℕ, eqb}
 
 unfoldable pub same : List ℕ → List ℕ → Bool

@@ -1,5 +1,4 @@
 -- Four Little Endian words, one after the other: an APLX entry, a piece of a plan, a region of a table.
-pub mod Laws
 use Rattle.std.specs.Prelude.{List, ◌++◌, ℕ, ◌+◌}
 use Rattle.words.specs.declared.four.Four.{Four}
 use Rattle.words.specs.Bytes.{little_endian, little_endian_at}

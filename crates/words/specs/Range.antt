@@ -1,5 +1,4 @@
 -- Ranges of numbers: n numbers from a on.
-pub mod Laws
 use Rattle.std.specs.Prelude.{Bool, ◌&&◌, ℕ, ◌+◌, ltb}
 
 -- the n numbers from a on and the k numbers from b on share a number

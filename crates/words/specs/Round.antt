@@ -1,5 +1,4 @@
 -- Lengths rounded up to a multiple of 32.
-pub mod Laws
 use Rattle.std.specs.Prelude.{ℕ, ◌+◌, ◌*◌, ◌/◌}
 
 unfoldable pub round_up : ℕ → ℕ

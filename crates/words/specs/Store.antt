@@ -1,6 +1,4 @@
 -- Bytes stored into a list at a place; all else is untouched.
-pub mod Laws
-pub mod Growing
 use Rattle.std.specs.Prelude.{List, ◌++◌, ℕ, ◌+◌, leb, length, take, drop}
 use Rattle.words.specs.Choice.{if◌then◌else◌}
 

@@ -4,9 +4,9 @@ use Rattle.std.proofs.Common.{ap, sym, ◌∙◌, zero-add, add-zero, length-dro
 use Prim.Native.Nat.{ℕ, zero, suc, ◌+◌, ◌-◌, ◌*◌, ◌/◌, ◌%◌, ◌≤◌, ◌<◌}
 use native.Mathlib.Omega.{arith}
 use borrow.Author.Tests.{le-leb}
-use Rattle.words.specs.Range.Laws.{Apart, before, behind, apart-part}
+use Rattle.words.proofs.RangeLaws.{Apart, before, behind, apart-part}
 use Rattle.words.specs.Store.{store, store_if_fits}
-use Rattle.words.specs.Store.Laws.{length-store, part-outside, store-adjoining, store-nil, store-fits, store-whole}
+use Rattle.words.proofs.StoreLaws.{length-store, part-outside, store-adjoining, store-nil, store-fits, store-whole}
 use Rattle.aplx_copy.specs.Copy.{copy_words, copied, copied_if_fits}
 
 -- ---- k words, i of them copied

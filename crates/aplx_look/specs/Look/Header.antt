@@ -9,7 +9,7 @@ use Rattle.words.specs.Choice.{if◌then◌else◌}
 use Rattle.memory_region.specs.declared.region.Right.TheVariants.{Read}
 use Rattle.outcome.specs.Outcome.{Stop, Ending, stops, refuses}
 use Rattle.outcome.specs.Destinations.{stored_in}
-use Rattle.outcome.specs.Destinations.Laws.{stored-append}
+use Rattle.outcome.proofs.DestinationsLaws.{stored-append}
 use Rattle.memory_map.specs.Lookup.{Lookup, place_of}
 use Rattle.aplx_command.specs.Command.{Command, copy, fill, exec, other, command_at}
 use Rattle.aplx_look.specs.Walk.{commands}

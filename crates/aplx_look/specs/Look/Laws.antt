@@ -3,7 +3,7 @@ use Rattle.std.specs.Prelude.{◌≡◌, refl, Bool, true, false, not, List, [],
 use Rattle.std.proofs.Common.{◌∙◌, arith, eqb-true}
 use Rattle.words.specs.Choice.{if◌then◌else◌}
 use Rattle.words.specs.Round.{round_up}
-use Rattle.words.specs.Round.Laws.{round-multiple}
+use Rattle.words.proofs.RoundLaws.{round-multiple}
 use Rattle.words.specs.Bytes.{little_endian_at}
 use Rattle.memory_region.specs.declared.region.Right.TheVariants.{Read, Write}
 use Rattle.memory_map.specs.declared.map.Map.{Map}
@@ -11,7 +11,7 @@ use Rattle.outcome.specs.Outcome.{Stop, Ending, stops, refuses, accepted, outcom
 use Rattle.outcome.specs.Destinations.{stored_in}
 use Rattle.memory_map.specs.Map.{sound}
 use Rattle.memory_map.specs.Lookup.{Lookup, Found, at, refused, found, lookup, place_of}
-use Rattle.memory_map.specs.Lookup.Laws.{Lawful, found_at}
+use Rattle.memory_map.proofs.LookupLaws.{Lawful, found_at}
 use Rattle.aplx_command.specs.Command.{Command, copy, fill, exec, other, command_of, command_at}
 use Rattle.aplx_look.specs.Walk.{Verdict, goes, halts, permitted, tests, walk, commands}
 use Rattle.aplx_look.specs.Walk.Laws.{Passed, walk-passed, length-commands}

@@ -4,9 +4,9 @@ use Rattle.std.proofs.Common.{ap, sym, ◌∙◌, arith, get_or-take, get_or-dro
 use Rattle.std.specs.Bool.{beq}
 use Rattle.std.proofs.Math.ListN.{get_or-append}
 use Rattle.std.proofs.lemmas.Bool.{eqb-false}
-use Rattle.words.specs.Choice.Laws.{true-is-false}
+use Rattle.words.proofs.ChoiceLaws.{true-is-false}
 use Rattle.words.specs.Bytes.{little_endian, Bytes}
-use Rattle.words.specs.Bytes.Laws.{length-little_endian, bytes-of}
+use Rattle.words.proofs.BytesLaws.{length-little_endian, bytes-of}
 use Rattle.word_blocks.specs.Repeat.{repeated, filling}
 use Rattle.plan.specs.Plan.{put, fill}
 use Rattle.plan.specs.Packed.{plan_pieces}

@@ -2,11 +2,11 @@
 use Rattle.std.specs.Prelude.{◌≡◌, refl, Bool, true, false, List, ℕ, ◌+◌, ◌-◌, ◌≤◌, ◌<◌, min, ltb, length, take, drop}
 use Rattle.std.proofs.Common.{ap, sym, add-zero, arith, ltb-true, ltb-false}
 use Rattle.words.specs.Choice.{if◌then◌else◌}
-use Rattle.word_blocks.specs.Repeat.Laws.{length-filling}
+use Rattle.word_blocks.proofs.RepeatLaws.{length-filling}
 use Rattle.plan.specs.declared.piece.Piece as CodePiece
 use Rattle.plan.specs.declared.piece.Piece.TheVariants as code
 use Rattle.plan.specs.Plan.{put, fill, run, address_of}
-use Rattle.plan.specs.Plan.Laws.{data-length}
+use Rattle.plan.proofs.PlanLaws.{data-length}
 use Rattle.plan.specs.Code.{piece_is}
 use Rattle.plan.specs.Code.Packer.{Writable}
 use Rattle.compare.specs.declared.segment.Span.{Span}

@@ -5,10 +5,10 @@ use Rattle.std.proofs.Math.Path.{ap, sym}
 use Rattle.std.proofs.Common.{◌∙◌, arith, eq-eqb, ne_eqb}
 use Rattle.std.proofs.Math.Bool.{not}
 use Rattle.words.specs.Choice.{All}
-use Rattle.words.specs.Choice.Laws.{true-is-false}
+use Rattle.words.proofs.ChoiceLaws.{true-is-false}
 use Rattle.words.specs.Bytes.{Bytes}
 use Rattle.word_blocks.specs.Repeat.{filling}
-use Rattle.word_blocks.specs.Repeat.Laws.{filling-bytes}
+use Rattle.word_blocks.proofs.RepeatLaws.{filling-bytes}
 use Rattle.plan.specs.Plan.{Piece, put, fill, run, data_of, address_of}
 use Rattle.stretches.specs.Stretches.{differs}
 use Rattle.plan.specs.Meaning.{stored_by}

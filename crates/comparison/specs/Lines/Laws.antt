@@ -3,9 +3,9 @@ use Rattle.std.specs.Prelude.{◌≡◌, refl, Bool, true, false, List, [], ◌�
 use Rattle.std.proofs.Common.{ap, sym, ◌∙◌, append_assoc, arith, length-append, eq-eqb, ne_eqb}
 use Rattle.words.specs.Choice.{if◌then◌else◌}
 use Rattle.words.specs.Store.{store, store_if_fits}
-use Rattle.words.specs.Store.Laws.{length-store, store-fits, store-adjoining, sets-store}
+use Rattle.words.proofs.StoreLaws.{length-store, store-fits, store-adjoining, sets-store}
 use Rattle.text.specs.Hex.{hex}
-use Rattle.text.specs.Digits.Laws.{length_digits}
+use Rattle.text.proofs.DigitsLaws.{length_digits}
 use Rattle.stretches.specs.Stretches.{Stretch}
 use Rattle.compare.specs.LastByte.{not_stored}
 use Rattle.comparison.specs.Lines.{byte_text, line}

@@ -8,14 +8,14 @@ use Rattle.std.proofs.Math.ListN.{length}
 use Rattle.words.specs.Choice.{All}
 use Rattle.words.specs.declared.four.Four.{Four}
 use Rattle.words.specs.Four.{four_at, four_bytes}
-use Rattle.words.specs.Four.Laws.{length-four_bytes, four-at-behind}
+use Rattle.words.proofs.FourLaws.{length-four_bytes, four-at-behind}
 use Rattle.words.specs.Bytes.{little_endian_at}
-use Rattle.words.specs.Bytes.Laws.{little-at-behind}
+use Rattle.words.proofs.BytesLaws.{little-at-behind}
 use Rattle.words.specs.Store.{store, store_if_fits}
-use Rattle.words.specs.Store.Laws.{store-nil, store-behind}
+use Rattle.words.proofs.StoreLaws.{store-nil, store-behind}
 use Rattle.stretches.specs.Stretches.{Stretch}
 use Rattle.compare.specs.Compare.{stretch_bytes}
-use Rattle.compare.specs.Compare.Small.{Small}
+use Rattle.compare.proofs.CompareSmall.{Small}
 use Rattle.comparison.specs.Lines.{run_line, line, lines}
 use Rattle.comparison.specs.Lines.Laws.{adjoined, length-line}
 

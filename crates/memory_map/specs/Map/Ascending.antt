@@ -2,12 +2,12 @@
 use Rattle.std.specs.Prelude.{◌≡◌, refl, Bool, true, ◌&&◌, List, [], ◌∷◌, ℕ, ◌+◌, ◌≤◌, leb}
 use Rattle.std.proofs.Common.{arith, leb-true}
 use Rattle.words.specs.Choice.{All, every}
-use Rattle.words.specs.Choice.Laws.{both}
-use Rattle.words.specs.Range.Laws.{before}
+use Rattle.words.proofs.ChoiceLaws.{both}
+use Rattle.words.proofs.RangeLaws.{before}
 use Rattle.memory_region.specs.declared.region.Region.{Region}
 use Rattle.memory_region.specs.Region.{keeps_rules, clear, ends_inside}
 use Rattle.memory_region.specs.Region.Follows.{follows}
-use Rattle.memory_region.specs.Region.Laws.{facts-clear}
+use Rattle.memory_region.proofs.RegionLaws.{facts-clear}
 use Rattle.memory_map.specs.Map.{all_keep_rules}
 
 -- each region follows the end of the one before it, the first one address a and place p

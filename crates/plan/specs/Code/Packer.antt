@@ -1,5 +1,4 @@
 -- What the code of a packer, and of the reader of images, asks and answers, in the terms of the definitions.
-pub mod Laws
 use Rattle.std.specs.Prelude.{◌≡◌, List, ℕ, ◌+◌, ◌%◌, ◌≤◌, length}
 use Rattle.plan.specs.declared.piece.Piece as CodePiece
 use Rattle.plan.specs.declared.piece.Piece.TheVariants.{Put, Fill, Run}

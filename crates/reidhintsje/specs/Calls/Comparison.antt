@@ -4,9 +4,9 @@ use Rattle.std.proofs.Common.{ap, sym, ◌∙◌}
 use Rattle.compare.specs.declared.compare.Compared as CodeCompared
 use Rattle.compare.specs.declared.compare.Compared.TheVariants as answer
 use Rattle.compare.specs.Code.{Outcome, outcome_of, stretch_count, outcome_is}
-use Rattle.compare.specs.Code.Answers.{compared-most}
+use Rattle.compare.proofs.CodeAnswers.{compared-most}
 use Rattle.compare.specs.Compare.{Compared, refuses, finds, most_stretches, stretch_size, compared}
-use Rattle.compare.specs.Compare.Output.{length-stretch_bytes}
+use Rattle.compare.proofs.CompareOutput.{length-stretch_bytes}
 use Rattle.reidhintsje.specs.Calls.{found_bytes}
 
 abbrev pub Few : CodeCompared.Compared → Type 0

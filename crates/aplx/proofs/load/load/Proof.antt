@@ -2,7 +2,7 @@
 use borrow.Author.Rules.{rules}
 use mathlib.Core.Path.{ap, sym, ◌∙◌}
 use Rattle.outcome.specs.Outcome.{outcome_of}
-use Rattle.outcome.specs.Outcome.Laws.{refused-keeps, accepted-leaves}
+use Rattle.outcome.proofs.OutcomeLaws.{refused-keeps, accepted-leaves}
 use Rattle.memory_map.specs.Lookup.{lookup}
 use Rattle.aplx_look.specs.Look.{aplx_look}
 use Rattle.aplx_look.specs.Look.Laws.{Accepted, accepted-look}

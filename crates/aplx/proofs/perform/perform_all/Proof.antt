@@ -6,7 +6,7 @@ use lib.ListN.{length}
 use borrow.Author.Rules.{rules}
 use Rattle.memory_region.specs.declared.region.Right.TheVariants.{Read}
 use Rattle.memory_map.specs.Lookup.{lookup, place_of}
-use Rattle.memory_map.specs.Lookup.Laws.{lawful}
+use Rattle.memory_map.proofs.LookupLaws.{lawful}
 use Rattle.aplx.proofs.Storing.{entry_at, Progress, start, finished, Next, next}
 use Rattle.aplx.proofs.perform.perform_all.Statement.{statement}
 use Rattle.aplx.proofs.perform.perform_all.Tie as tie

@@ -4,11 +4,11 @@ use Prim.Native.Nat.{◌+◌, ◌≤◌}
 use native.Mathlib.Omega.{arith}
 use lib.ListN.{length}
 use borrow.Author.Rules.{rules}
-use Rattle.word_blocks.specs.Repeat.Laws.{filling-whole, fill-part}
+use Rattle.word_blocks.proofs.RepeatLaws.{filling-whole, fill-part}
 use Rattle.words.specs.Store.{store}
 use Rattle.memory_region.specs.declared.region.Right.TheVariants.{Read, Write}
 use Rattle.memory_map.specs.Lookup.{lookup, place_of}
-use Rattle.memory_map.specs.Lookup.Laws.{lawful, range_inside}
+use Rattle.memory_map.proofs.LookupLaws.{lawful, range_inside}
 use Rattle.aplx_copy.specs.Copy.Laws.{copied-fits}
 use Rattle.aplx.specs.Load.{perform}
 use Rattle.aplx.proofs.perform.perform_command.Statement.{statement}

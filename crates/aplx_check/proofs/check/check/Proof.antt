@@ -2,10 +2,10 @@
 use Rattle.std.proofs.Common.{sym, ap, ◌∙◌, arith, rules}
 use Rattle.plan.specs.Plan.{read_plan}
 use Rattle.plan.specs.Code as plan
-use Rattle.plan.specs.Code.Packer.Laws.{counted-read}
-use Rattle.plan.specs.Code.Laws.{Counted, counted}
+use Rattle.plan.proofs.CodePackerLaws.{counted-read}
+use Rattle.plan.proofs.CodeLaws.{Counted, counted}
 use Rattle.aplx_check.specs.Check.{check}
-use Rattle.aplx_check.specs.Code.Laws.{plan-refused}
+use Rattle.aplx_check.proofs.CodeLaws.{plan-refused}
 use Rattle.aplx_check.proofs.check.check.Statement.{statement}
 use Rattle.aplx_check.proofs.check.check.Tie as tie
 

@@ -4,12 +4,12 @@ use borrow.Author.Tests.{not-true, not-false}
 use Rattle.plan.specs.Plan.{Piece, run}
 use Rattle.plan.specs.Packed.{plan_pieces}
 use Rattle.plan.specs.Code.{put_length, fill_length, piece_is}
-use Rattle.plan.specs.Code.Laws.{Found, found}
+use Rattle.plan.proofs.CodeLaws.{Found, found}
 use Rattle.aplx_check.specs.declared.due.Due.{Due}
 use Rattle.aplx_check.specs.Parts.{size_of, rest_of}
 use Rattle.aplx_check.specs.Check.{refuses, is_due, part_length, check_entries}
-use Rattle.aplx_check.specs.Check.Laws.{due-none, entry-wrong, entry-late, end-due, end-early}
-use Rattle.aplx_check.specs.Code.Laws.{size-sum, due_in, piece_due, Within, piece-due, part-ends, due-next}
+use Rattle.aplx_check.proofs.CheckLaws.{due-none, entry-wrong, entry-late, end-due, end-early}
+use Rattle.aplx_check.proofs.CodeLaws.{size-sum, due_in, piece_due, Within, piece-due, part-ends, due-next}
 use Rattle.aplx_check.proofs.check.check_entries.Statement.{statement}
 use Rattle.aplx_check.proofs.check.check_entries.Tie as tie
 

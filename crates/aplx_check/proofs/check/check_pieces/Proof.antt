@@ -1,7 +1,7 @@
 -- `aplx_check::check::check_pieces` meets its contract: the end entry, and then the entries before it.
 use Rattle.std.proofs.Common.{◌≡◌, sym, ap, ◌∙◌, arith, rules}
 use Rattle.aplx_check.specs.Check.{at, first_end, whole_entries, check_pieces}
-use Rattle.aplx_check.specs.Check.EndEntry.{end-found}
+use Rattle.aplx_check.proofs.CheckEndEntry.{end-found}
 use Rattle.aplx_check.specs.Code.{end_is}
 use Rattle.aplx_check.proofs.check.check_pieces.Statement.{statement}
 use Rattle.aplx_check.proofs.check.check_pieces.Tie as tie

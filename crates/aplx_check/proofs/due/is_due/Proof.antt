@@ -2,7 +2,7 @@
 use Rattle.std.proofs.Common.{◌≡◌, ◌+◌, ◌-◌, ◌≤◌, arith, rules}
 use Rattle.plan.specs.declared.piece.Piece.TheVariants.{Put, Fill}
 use Rattle.plan.specs.Code.Packer.{Writable}
-use Rattle.aplx_check.specs.Code.Laws.{bytes_left}
+use Rattle.aplx_check.proofs.CodeLaws.{bytes_left}
 use Rattle.aplx_check.proofs.due.is_due.Statement.{statement}
 use Rattle.aplx_check.proofs.due.is_due.Tie as tie
 

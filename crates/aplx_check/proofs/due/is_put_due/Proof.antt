@@ -3,7 +3,7 @@ use Rattle.std.proofs.Common.{◌+◌, ◌*◌, length, sym, ◌∙◌, length-t
 use borrow.Author.Tests.{not-true, not-false}
 use Rattle.words.specs.Bytes.{little_endian_at}
 use Rattle.aplx_check.specs.Check.{is_due}
-use Rattle.aplx_check.specs.Code.Laws.{part-inside}
+use Rattle.aplx_check.proofs.CodeLaws.{part-inside}
 use Rattle.aplx_check.proofs.due.is_put_due.Statement.{statement}
 use Rattle.aplx_check.proofs.due.is_put_due.Tie as tie
 

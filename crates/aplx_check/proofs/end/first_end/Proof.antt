@@ -1,7 +1,7 @@
 -- `aplx_check::end::first_end` meets its contract: the search from `entry` on finds what the whole search finds.
 use Rattle.std.proofs.Common.{◌≡◌, ◌-◌, ◌≤◌, sym, ◌∙◌, arith}
 use Rattle.aplx_check.specs.Check.{first_end}
-use Rattle.aplx_check.specs.Check.Laws.{end-here, end-next, end_none}
+use Rattle.aplx_check.proofs.CheckLaws.{end-here, end-next, end_none}
 use Rattle.aplx_check.proofs.end.first_end.Statement.{statement}
 use Rattle.aplx_check.proofs.end.first_end.Tie as tie
 

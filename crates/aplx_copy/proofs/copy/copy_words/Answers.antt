@@ -6,7 +6,7 @@ use native.Mathlib.Nat.{sub-zero, add-zero}
 use native.Mathlib.Omega.{arith}
 use lib.ListN.{length, take, drop, get_or, set, length-set}
 use Rattle.words.specs.Store.{store}
-use Rattle.words.specs.Store.Laws.{four-elements, four-sets, store-fits}
+use Rattle.words.proofs.StoreLaws.{four-elements, four-sets, store-fits}
 use Rattle.aplx_copy.specs.Copy.{copied}
 use Rattle.aplx_copy.specs.Copy.Laws.{copy-next, copy-end}
 use Rattle.aplx_copy.proofs.copy.copy_words.Goals as goal

@@ -8,7 +8,7 @@ use Rattle.memory_region.specs.declared.region.Right.TheVariants.{Read}
 use Rattle.outcome.specs.Outcome.{stop_of}
 use Rattle.outcome.specs.Destinations.{stored_in}
 use Rattle.memory_map.specs.Lookup.{lookup, place_of}
-use Rattle.memory_map.specs.Lookup.Laws.{lawful, found-place}
+use Rattle.memory_map.proofs.LookupLaws.{lawful, found-place}
 use Rattle.aplx_command.specs.Command.{command_at}
 use Rattle.aplx_look.specs.Walk.{commands}
 use Rattle.aplx_look.specs.Walk.Laws.{Entry, goes-found}

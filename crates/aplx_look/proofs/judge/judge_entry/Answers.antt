@@ -3,7 +3,7 @@ use mathlib.Core.Path.{◌≡◌, ap, sym, ◌∙◌}
 use native.Mathlib.Omega.{arith}
 use lib.ListN.{length}
 use Rattle.aplx_look.specs.Walk.{judge}
-use Rattle.memory_map.specs.Lookup.Laws.{lawful}
+use Rattle.memory_map.proofs.LookupLaws.{lawful}
 use Rattle.memory_map.specs.Lookup.{at, lookup, found_of}
 use Rattle.memory_region.specs.declared.region.Right.TheVariants.{Read}
 use Rattle.aplx_look.proofs.judge.judge_entry.Goals as goal

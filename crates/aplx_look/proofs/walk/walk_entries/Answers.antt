@@ -6,7 +6,7 @@ use lib.ListN.{length}
 use Rattle.aplx_look.specs.Code.{verdict_is}
 use Rattle.aplx_look.specs.Walk.Laws.{goes-found, walk-goes, walk-halts, walk-tired}
 use Rattle.aplx_look.specs.Walk.{goes, judge, walk}
-use Rattle.memory_map.specs.Lookup.Laws.{lawful}
+use Rattle.memory_map.proofs.LookupLaws.{lawful}
 use Rattle.memory_map.specs.Lookup.{lookup}
 use Rattle.memory_region.specs.declared.region.Right.TheVariants.{Read}
 use Rattle.aplx_look.proofs.walk.walk_entries.Goals as goal

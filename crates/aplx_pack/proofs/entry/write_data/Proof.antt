@@ -3,10 +3,10 @@ use mathlib.Core.Path.{◌≡◌, sym, ◌∙◌}
 use Prim.Native.Nat.{◌+◌, ◌-◌, ◌≤◌}
 use native.Mathlib.Omega.{arith}
 use lib.ListN.{length, take, drop}
-use Rattle.words.specs.Store.Laws.{store-fits, store-nil}
+use Rattle.words.proofs.StoreLaws.{store-fits, store-nil}
 use Rattle.plan.specs.declared.piece.Piece.TheVariants.{Put}
 use Rattle.plan.specs.Code.Packer.{Writable}
-use Rattle.plan.specs.Plan.Laws.{data-length}
+use Rattle.plan.proofs.PlanLaws.{data-length}
 use borrow.Author.Rules.{rules}
 use Rattle.aplx_pack.proofs.entry.write_data.Statement.{statement}
 use Rattle.aplx_pack.proofs.entry.write_data.Tie as tie

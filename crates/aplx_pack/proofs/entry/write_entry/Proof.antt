@@ -1,6 +1,6 @@
 -- `aplx_pack::entry::write_entry` meets its contract: each arm writes the entry of its kind of piece.
 use Rattle.words.specs.Four.{four_bytes}
-use Rattle.words.specs.Bytes.Laws.{little_endian-modulo}
+use Rattle.words.proofs.BytesLaws.{little_endian-modulo}
 use borrow.Author.Rules.{rules}
 use Rattle.aplx_pack.proofs.entry.write_entry.Statement.{statement}
 use Rattle.aplx_pack.proofs.entry.write_entry.Tie as tie

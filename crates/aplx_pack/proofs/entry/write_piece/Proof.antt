@@ -4,11 +4,11 @@ use mathlib.Core.List.{List}
 use Prim.Native.Nat.{ℕ, ◌-◌}
 use native.Mathlib.Omega.{arith}
 use Rattle.words.specs.Store.{store}
-use Rattle.words.specs.Store.Laws.{store-fits}
+use Rattle.words.proofs.StoreLaws.{store-fits}
 use Rattle.plan.specs.Plan.{data_of}
 use Rattle.plan.specs.Code.{row_is, piece_is}
 use Rattle.aplx_pack.specs.Code.{row_entry}
-use Rattle.aplx_pack.specs.Code.Laws.{length-row_entry, row-entry}
+use Rattle.aplx_pack.proofs.CodeLaws.{length-row_entry, row-entry}
 use borrow.Author.Rules.{rules}
 use Rattle.aplx_pack.proofs.entry.write_piece.Statement.{statement}
 use Rattle.aplx_pack.proofs.entry.write_piece.Tie as tie

@@ -7,10 +7,10 @@ use borrow.Author.Rules.{rules}
 use lib.ListN.{length}
 use Rattle.plan.specs.Plan.{read_plan}
 use Rattle.plan.specs.Packed.{plan_pieces}
-use Rattle.plan.specs.Code.Laws.{Counted, counted}
-use Rattle.plan.specs.Code.Packer.Laws.{counted-read, leaves-refused, leaves-small, image-fits, leaves-image}
+use Rattle.plan.proofs.CodeLaws.{Counted, counted}
+use Rattle.plan.proofs.CodePackerLaws.{counted-read, leaves-refused, leaves-small, image-fits, leaves-image}
 use Rattle.aplx_pack.specs.Image.{aplx_image, pack_aplx}
-use Rattle.aplx_pack.specs.Image.Laws.{length-aplx_image}
+use Rattle.aplx_pack.proofs.ImageLaws.{length-aplx_image}
 use Rattle.aplx_pack.proofs.pack.pack.Statement.{statement}
 use Rattle.aplx_pack.proofs.pack.pack.Tie as tie
 

@@ -5,15 +5,15 @@ use Prim.Native.Nat.{◌+◌, ◌-◌, ◌*◌, ◌≤◌}
 use native.Mathlib.Omega.{arith}
 use borrow.Author.Rules.{rules}
 use lib.ListN.{length}
-use Rattle.words.specs.Four.Laws.{four-fits}
-use Rattle.words.specs.Store.Laws.{store-nil}
+use Rattle.words.proofs.FourLaws.{four-fits}
+use Rattle.words.proofs.StoreLaws.{store-nil}
 use Rattle.plan.specs.Plan.{Piece, data_of, put_bytes, datas}
 use Rattle.plan.specs.Packed.{plan_pieces}
 use Rattle.plan.specs.Code.{piece_is}
-use Rattle.plan.specs.Code.Laws.{Found, found}
-use Rattle.plan.specs.Code.Rows.{data_start, earlier, earlier-most, put-most, datas-through, earlier-next, Written, length-written, written-more}
+use Rattle.plan.proofs.CodeLaws.{Found, found}
+use Rattle.plan.proofs.CodeRows.{data_start, earlier, earlier-most, put-most, datas-through, earlier-next, Written, length-written, written-more}
 use Rattle.aplx_pack.specs.Image.{entry_of}
-use Rattle.aplx_pack.specs.Image.Laws.{length-entry_of}
+use Rattle.aplx_pack.proofs.ImageLaws.{length-entry_of}
 use Rattle.aplx_pack.proofs.Packing.{front, length_front, front-through, image-end, written_all}
 use Rattle.aplx_pack.proofs.pack.write_image.Statement.{statement}
 use Rattle.aplx_pack.proofs.pack.write_image.Tie as tie

@@ -7,12 +7,12 @@ use borrow.Author.Rules.{rules}
 use lib.ListN.{length}
 use Rattle.plan.specs.Plan.{data_of, filled_by}
 use Rattle.plan.specs.Code.{row_is, piece_is, outcome_of}
-use Rattle.plan.specs.Code.Counting.{outcome_after, after_none, after-piece, after-all}
-use Rattle.plan.specs.Code.Laws.{Lengths}
+use Rattle.plan.proofs.CodeCounting.{outcome_after, after_none, after-piece, after-all}
+use Rattle.plan.proofs.CodeLaws.{Lengths}
 use Rattle.aplx_read.specs.ReadBack.{piece, entry_at, read_entries, read_image}
-use Rattle.aplx_read.specs.ReadBack.Laws.{read-piece, read-end, read-bad, read-no-more}
+use Rattle.aplx_read.proofs.ReadBackLaws.{read-piece, read-end, read-bad, read-no-more}
 use Rattle.aplx_read.specs.Code.{entry_is}
-use Rattle.aplx_read.specs.Code.Laws.{entry-lengths}
+use Rattle.aplx_read.proofs.CodeLaws.{entry-lengths}
 use Rattle.aplx_read.proofs.image.read.Statement.{statement}
 use Rattle.aplx_read.proofs.image.read.Tie as tie
 

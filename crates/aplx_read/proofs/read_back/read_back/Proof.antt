@@ -5,13 +5,13 @@ use Prim.Native.Nat.{ℕ, ◌+◌, ◌*◌}
 use native.Mathlib.Omega.{arith}
 use borrow.Author.Rules.{rules}
 use lib.ListN.{length}
-use Rattle.plan.specs.Code.Laws.{Counted}
-use Rattle.plan.specs.Code.Packer.Laws.{counted-read, leaves-refused, leaves-small, image-fits, leaves-image}
+use Rattle.plan.proofs.CodeLaws.{Counted}
+use Rattle.plan.proofs.CodePackerLaws.{counted-read, leaves-refused, leaves-small, image-fits, leaves-image}
 use Rattle.aplx_read.specs.PlanBytes.{plan_bytes}
-use Rattle.aplx_read.specs.PlanBytes.Laws.{length-plan_bytes}
+use Rattle.aplx_read.proofs.PlanBytesLaws.{length-plan_bytes}
 use Rattle.aplx_read.specs.ReadBack.{read_image, read_back}
 use Rattle.aplx_read.specs.Code.{image_pieces}
-use Rattle.aplx_read.specs.Code.Laws.{counted}
+use Rattle.aplx_read.proofs.CodeLaws.{counted}
 use Rattle.aplx_read.proofs.read_back.read_back.Statement.{statement}
 use Rattle.aplx_read.proofs.read_back.read_back.Tie as tie
 

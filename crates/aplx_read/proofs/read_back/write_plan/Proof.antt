@@ -5,16 +5,16 @@ use Prim.Native.Nat.{ℕ, ◌+◌, ◌-◌, ◌*◌, ◌≤◌}
 use native.Mathlib.Omega.{arith}
 use borrow.Author.Rules.{rules}
 use lib.ListN.{length}
-use Rattle.words.specs.Four.Laws.{four-fits}
+use Rattle.words.proofs.FourLaws.{four-fits}
 use Rattle.words.specs.Store.{store}
 use Rattle.plan.specs.Plan.{Piece, data_of, put_bytes, datas}
 use Rattle.plan.specs.Code.{piece_is}
-use Rattle.plan.specs.Code.Laws.{Found}
-use Rattle.plan.specs.Code.Rows.{data_start, earlier, earlier-most, put-most, datas-through, earlier-next, Written, length-written, written-more}
+use Rattle.plan.proofs.CodeLaws.{Found}
+use Rattle.plan.proofs.CodeRows.{data_start, earlier, earlier-most, put-most, datas-through, earlier-next, Written, length-written, written-more}
 use Rattle.aplx_read.specs.PlanBytes.{row_bytes}
-use Rattle.aplx_read.specs.PlanBytes.Laws.{length-row_bytes}
+use Rattle.aplx_read.proofs.PlanBytesLaws.{length-row_bytes}
 use Rattle.aplx_read.specs.Code.{image_pieces}
-use Rattle.aplx_read.specs.Code.Laws.{found}
+use Rattle.aplx_read.proofs.CodeLaws.{found}
 use Rattle.aplx_read.proofs.Writing as written
 use Rattle.aplx_read.proofs.Writing.{header, header_is, front, length_front, front-through, plan-end}
 use Rattle.aplx_read.proofs.read_back.write_plan.Statement.{statement}

@@ -4,12 +4,12 @@ use Prim.Native.Nat.{◌+◌, ◌-◌, ◌≤◌}
 use native.Mathlib.Omega.{arith}
 use lib.ListN.{length, take, drop}
 use Rattle.words.specs.Four.{four_bytes}
-use Rattle.words.specs.Four.Laws.{length-four_bytes, four-fits}
-use Rattle.words.specs.Store.Laws.{store-nil}
-use Rattle.words.specs.Store.Growing.{both-fit}
+use Rattle.words.proofs.FourLaws.{length-four_bytes, four-fits}
+use Rattle.words.proofs.StoreLaws.{store-nil}
+use Rattle.words.proofs.StoreGrowing.{both-fit}
 use Rattle.plan.specs.declared.piece.Piece.TheVariants.{Put, Fill}
 use Rattle.plan.specs.Code.Packer.{Writable}
-use Rattle.plan.specs.Plan.Laws.{data-length}
+use Rattle.plan.proofs.PlanLaws.{data-length}
 use Rattle.aplx_read.specs.PlanBytes.{row_bytes}
 use borrow.Author.Rules.{rules}
 use Rattle.aplx_read.proofs.read_back.write_row.Statement.{statement}

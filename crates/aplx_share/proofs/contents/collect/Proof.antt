@@ -11,13 +11,13 @@ use Rattle.plan.specs.declared.piece.Piece.TheVariants.{Put}
 use Rattle.plan.specs.Plan.{Piece, put}
 use Rattle.plan.specs.Packed.{plan_pieces}
 use Rattle.plan.specs.Code.{piece_is}
-use Rattle.plan.specs.Code.Laws.{Found, found}
+use Rattle.plan.proofs.CodeLaws.{Found, found}
 use Rattle.aplx_share.specs.Contents.{contents, different, kept_contents, place}
-use Rattle.aplx_share.specs.Contents.Places.{new-content, known-content}
+use Rattle.aplx_share.proofs.ContentsPlaces.{new-content, known-content}
 use Rattle.aplx_share.specs.SharedImage.{place_of}
 use Rattle.aplx_share.specs.Collected.{Collected}
-use Rattle.aplx_share.specs.Collected.Laws.{put_some}
-use Rattle.aplx_share.specs.Collected.Steps.{collected-none, same-other, same_known, more-new, collected-same, collected-more}
+use Rattle.aplx_share.proofs.CollectedLaws.{put_some}
+use Rattle.aplx_share.proofs.CollectedSteps.{collected-none, same-other, same_known, more-new, collected-same, collected-more}
 use borrow.Author.Rules.{rules}
 use Rattle.aplx_share.proofs.contents.collect.Statement.{statement}
 use Rattle.aplx_share.proofs.contents.collect.Tie as tie

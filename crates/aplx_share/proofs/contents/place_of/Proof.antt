@@ -7,10 +7,10 @@ use native.Mathlib.Omega.{arith}
 use lib.ListN.{length, take, drop, get_or}
 use Rattle.words.specs.Equal.{same}
 use Rattle.aplx_share.specs.Contents.{is_among, total_length, place}
-use Rattle.aplx_share.specs.Contents.Steps.{total_length-next}
-use Rattle.aplx_share.specs.Contents.Places.{look-found, look-next, look_none}
+use Rattle.aplx_share.proofs.ContentsSteps.{total_length-next}
+use Rattle.aplx_share.proofs.ContentsPlaces.{look-found, look-next, look_none}
 use Rattle.aplx_share.specs.Collected.{kept_at}
-use Rattle.aplx_share.specs.Collected.Laws.{length-kept_at, in_kept, part-kept, length-kept}
+use Rattle.aplx_share.proofs.CollectedLaws.{length-kept_at, in_kept, part-kept, length-kept}
 use borrow.Author.Rules.{rules}
 use Rattle.aplx_share.proofs.contents.place_of.Statement.{statement}
 use Rattle.aplx_share.proofs.contents.place_of.Tie as tie

@@ -7,11 +7,11 @@ use native.Mathlib.Omega.{arith}
 use lib.ListN.{length, take, get_or, length-append}
 use lib.Seq.{take_all}
 use Rattle.words.specs.Store.{store}
-use Rattle.words.specs.Store.Laws.{store-nil, store-behind}
+use Rattle.words.proofs.StoreLaws.{store-nil, store-behind}
 use Rattle.aplx_share.specs.Contents.{joined}
-use Rattle.aplx_share.specs.Contents.Steps.{joined-next, joined-most}
+use Rattle.aplx_share.proofs.ContentsSteps.{joined-next, joined-most}
 use Rattle.aplx_share.specs.Collected.{kept_at}
-use Rattle.aplx_share.specs.Collected.Laws.{length-kept_at, in_kept, part-kept, length-kept}
+use Rattle.aplx_share.proofs.CollectedLaws.{length-kept_at, in_kept, part-kept, length-kept}
 use borrow.Author.Rules.{rules}
 use Rattle.aplx_share.proofs.image.write_contents.Statement.{statement}
 use Rattle.aplx_share.proofs.image.write_contents.Tie as tie

@@ -5,19 +5,19 @@ use Prim.Native.Nat.{◌+◌, ◌-◌, ◌*◌, ◌≤◌}
 use native.Mathlib.Omega.{arith}
 use lib.ListN.{length, get_or}
 use Rattle.words.specs.Four.{four_bytes}
-use Rattle.words.specs.Four.Laws.{length-four_bytes}
+use Rattle.words.proofs.FourLaws.{length-four_bytes}
 use Rattle.words.specs.Store.{store}
-use Rattle.words.specs.Store.Laws.{store-nil, store-behind}
+use Rattle.words.proofs.StoreLaws.{store-nil, store-behind}
 use Rattle.plan.specs.Plan.{Piece}
 use Rattle.plan.specs.Packed.{plan_pieces}
 use Rattle.plan.specs.Code.{piece_is}
-use Rattle.plan.specs.Code.Laws.{Found, found}
+use Rattle.plan.proofs.CodeLaws.{Found, found}
 use Rattle.aplx_pack.specs.Image.{entry_of}
-use Rattle.aplx_pack.specs.Image.Laws.{length-entry_of}
-use Rattle.aplx_pack.specs.Code.Laws.{row-entry}
+use Rattle.aplx_pack.proofs.ImageLaws.{length-entry_of}
+use Rattle.aplx_pack.proofs.CodeLaws.{row-entry}
 use Rattle.aplx_share.specs.Contents.{kept_contents}
 use Rattle.aplx_share.specs.SharedImage.{place_of}
-use Rattle.aplx_share.specs.Collected.Laws.{found_here, place-low}
+use Rattle.aplx_share.proofs.CollectedLaws.{found_here, place-low}
 use Rattle.aplx_share.proofs.Entries.{front, length_front, front-next, front-all}
 use borrow.Author.Rules.{rules}
 use Rattle.aplx_share.proofs.image.write_entries.Statement.{statement}

@@ -6,10 +6,10 @@ use native.Mathlib.Omega.{arith}
 use lib.ListN.{length}
 use Rattle.plan.specs.Plan.{read_plan}
 use Rattle.plan.specs.Code as reader
-use Rattle.plan.specs.Code.Laws.{Counted, counted}
-use Rattle.plan.specs.Code.Packer.Laws.{counted-read, refused-length}
+use Rattle.plan.proofs.CodeLaws.{Counted, counted}
+use Rattle.plan.proofs.CodePackerLaws.{counted-read, refused-length}
 use Rattle.aplx_share.specs.SharedImage.{shared_image}
-use Rattle.aplx_share.specs.Collected.Steps.{image-size}
+use Rattle.aplx_share.proofs.CollectedSteps.{image-size}
 use borrow.Author.Rules.{rules}
 use Rattle.aplx_share.proofs.pack.image_length.Statement.{statement}
 use Rattle.aplx_share.proofs.pack.image_length.Tie as tie

@@ -3,8 +3,8 @@ use mathlib.Core.List.{List}
 use Prim.Native.Nat.{ℕ}
 use native.Mathlib.Omega.{arith}
 use Rattle.plan.specs.Plan.{read_plan}
-use Rattle.plan.specs.Code.Laws.{Counted, counted}
-use Rattle.plan.specs.Code.Packer.Laws.{counted-read, leaves-refused}
+use Rattle.plan.proofs.CodeLaws.{Counted, counted}
+use Rattle.plan.proofs.CodePackerLaws.{counted-read, leaves-refused}
 use Rattle.aplx_share.specs.SharedImage.{shared_image, pack_shared}
 use borrow.Author.Rules.{rules}
 use Rattle.aplx_share.proofs.pack.pack.Statement.{statement}

@@ -6,13 +6,13 @@ use native.Mathlib.Omega.{arith}
 use lib.ListN.{length}
 use Rattle.plan.specs.Plan.{Piece, read_plan}
 use Rattle.plan.specs.Packed.{plan_pieces}
-use Rattle.plan.specs.Code.Packer.Laws.{leaves-small, leaves-image}
+use Rattle.plan.proofs.CodePackerLaws.{leaves-small, leaves-image}
 use Rattle.aplx_share.specs.Contents.{kept_contents}
-use Rattle.aplx_share.specs.Contents.Laws.{length-joined}
+use Rattle.aplx_share.proofs.ContentsLaws.{length-joined}
 use Rattle.aplx_share.specs.SharedImage.{shared_image, pack_shared}
-use Rattle.aplx_share.specs.SharedImage.Laws.{length-shared_image, written-image}
+use Rattle.aplx_share.proofs.SharedImageLaws.{length-shared_image, written-image}
 use Rattle.aplx_share.specs.Collected.{Collected}
-use Rattle.aplx_share.specs.Collected.Steps.{all-kept, all_placed, image-size}
+use Rattle.aplx_share.proofs.CollectedSteps.{all-kept, all_placed, image-size}
 use borrow.Author.Rules.{rules}
 use Rattle.aplx_share.proofs.pack.pack_pieces.Statement.{statement}
 use Rattle.aplx_share.proofs.pack.pack_pieces.Tie as tie

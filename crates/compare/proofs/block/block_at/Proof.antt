@@ -3,7 +3,7 @@ use mathlib.Core.Path.{sym, ◌∙◌}
 use Prim.Native.Nat.{◌+◌}
 use native.Mathlib.Omega.{arith}
 use borrow.Author.Rules.{rules}
-use Rattle.plan.specs.Code.Laws.{known_bytes}
+use Rattle.plan.proofs.CodeLaws.{known_bytes}
 use Rattle.compare.specs.Code.Segment.{reaches-part}
 use Rattle.compare.specs.Code.Block.{is-old, is-new, compared-alike, alike-without}
 use Rattle.compare.proofs.block.block_at.Statement.{statement}

@@ -4,7 +4,7 @@ use Prim.Native.Nat.{◌+◌, ◌-◌, ◌%◌}
 use lib.ListN.{get_or}
 use Rattle.words.specs.Bytes.{little_endian}
 use native.Mathlib.Omega.{arith}
-use Rattle.stretches.specs.Stretches.Exchanged.{eqb-turned}
+use Rattle.stretches.proofs.StretchesExchanged.{eqb-turned}
 use Rattle.compare.specs.Code.Laws.{put-at, fill-at, equal-pairs}
 use borrow.Author.Rules.{rules}
 use Rattle.compare.proofs.block.until_fill.Statement.{statement}

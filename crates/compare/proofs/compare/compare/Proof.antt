@@ -6,7 +6,7 @@ use Rattle.plan.specs.Plan.{Read}
 use Rattle.compare.specs.Reading.{addresses, read_compared}
 use Rattle.compare.specs.Compare.{compared_below}
 use Rattle.compare.specs.Code.{reading_is, Comparable}
-use Rattle.compare.specs.Code.Answers.{comparable, not-comparable, answered, old-refused, too_small, large-enough}
+use Rattle.compare.proofs.CodeAnswers.{comparable, not-comparable, answered, old-refused, too_small, large-enough}
 use borrow.Author.Rules.{rules}
 use Rattle.compare.proofs.compare.compare.Statement.{statement}
 use Rattle.compare.proofs.compare.compare.Tie as tie

@@ -5,7 +5,7 @@ use Rattle.plan.specs.Packed.{plan_pieces}
 use Rattle.compare.specs.Reading.{addresses, read_compared}
 use Rattle.compare.specs.Compare.{compared_below}
 use Rattle.compare.specs.Code.{reading_is, Comparable}
-use Rattle.compare.specs.Code.Answers.{comparable, not-comparable, answered, new-refused}
+use Rattle.compare.proofs.CodeAnswers.{comparable, not-comparable, answered, new-refused}
 use borrow.Author.Rules.{rules}
 use Rattle.compare.proofs.compare.compare_new.Statement.{statement}
 use Rattle.compare.proofs.compare.compare_new.Tie as tie

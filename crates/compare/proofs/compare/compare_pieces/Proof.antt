@@ -11,7 +11,7 @@ use Rattle.stretches.specs.Stretches.{Stretch}
 use Rattle.compare.specs.Reading.{addresses, Run, run_of, same_run}
 use Rattle.compare.specs.Compare.{most_stretches, differences}
 use Rattle.compare.specs.Code.{found, run_is}
-use Rattle.compare.specs.Code.Answers.{answered, limited-more, limited-few, both_read}
+use Rattle.compare.proofs.CodeAnswers.{answered, limited-more, limited-few, both_read}
 use borrow.Author.Rules.{rules}
 use Rattle.compare.proofs.compare.compare_pieces.Statement.{statement}
 use Rattle.compare.proofs.compare.compare_pieces.Tie as tie

@@ -8,7 +8,7 @@ use Rattle.words.specs.Store.{store}
 use Rattle.stretches.specs.Stretches.{Stretch}
 use Rattle.stretches.specs.Stretches.Words.{Listing}
 use Rattle.compare.specs.Compare.{stretch_bytes}
-use Rattle.compare.specs.Compare.Output.{put-none, put-stretch, put_all}
+use Rattle.compare.proofs.CompareOutput.{put-none, put-stretch, put_all}
 use Rattle.compare.proofs.listing.put_stretches.Statement.{statement}
 use Rattle.compare.proofs.listing.put_stretches.Tie as tie
 

@@ -1,6 +1,6 @@
 -- `compare::pairs::is_alike` meets its contract.
 use mathlib.Core.Path.{sym}
-use Rattle.words.specs.Choice.Laws.{true-is-false}
+use Rattle.words.proofs.ChoiceLaws.{true-is-false}
 use Rattle.compare.specs.Code.Laws.{beq_same}
 use Rattle.compare.proofs.pairs.is_alike.Statement.{statement}
 use Rattle.compare.proofs.pairs.is_alike.Tie as tie

@@ -2,7 +2,7 @@
 use mathlib.Core.Path.{◌≡◌, ap, sym, ◌∙◌}
 use native.Mathlib.Omega.{arith}
 use Rattle.plan.specs.Plan.{counts, judge_header}
-use Rattle.plan.specs.Plan.Laws.{header-passed}
+use Rattle.plan.proofs.PlanLaws.{header-passed}
 use Rattle.plan.specs.Code.{header_is}
 use Rattle.compare.specs.Reading.{read_compared}
 use borrow.Author.Rules.{rules}

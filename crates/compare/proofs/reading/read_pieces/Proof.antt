@@ -5,9 +5,9 @@ use native.Mathlib.Omega.{arith}
 use borrow.Author.Rules.{rules}
 use Rattle.plan.specs.Code.{judged_is, piece_is}
 use Rattle.compare.specs.Reading.{compared_pieces}
-use Rattle.compare.specs.Reading.Laws.{compared-good, compared-bad, compared-end}
+use Rattle.compare.proofs.ReadingLaws.{compared-good, compared-bad, compared-end}
 use Rattle.compare.specs.Code.{reading_of}
-use Rattle.compare.specs.Code.Answers.{reading_after, after_none, after-piece, after-all}
+use Rattle.compare.proofs.CodeAnswers.{reading_after, after_none, after-piece, after-all}
 use Rattle.compare.proofs.reading.read_pieces.Statement.{statement}
 use Rattle.compare.proofs.reading.read_pieces.Tie as tie
 

@@ -8,11 +8,11 @@ use lib.ListN.{length, drop}
 use Rattle.plan.specs.Packed.{plan_pieces}
 use Rattle.plan.specs.Meaning.{stretch}
 use Rattle.plan.specs.Code.{piece_is}
-use Rattle.plan.specs.Code.Laws.{Found, found}
+use Rattle.plan.proofs.CodeLaws.{Found, found}
 use Rattle.compare.specs.Reading.{run_of}
 use Rattle.compare.specs.Reading.Stretch.{run_at, stretch-run, stretch-next, stretch-end}
 use Rattle.compare.specs.Code.{run_is}
-use Rattle.compare.specs.Code.Answers.{run-anywhere}
+use Rattle.compare.proofs.CodeAnswers.{run-anywhere}
 use Rattle.compare.proofs.run.stretch_of.Statement.{statement}
 use Rattle.compare.proofs.run.stretch_of.Tie as tie
 

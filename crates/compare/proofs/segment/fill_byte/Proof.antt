@@ -1,5 +1,5 @@
 -- `compare::segment::fill_byte` meets its contract: the word's bytes.
-use Rattle.words.specs.Bytes.Laws.{word_bytes}
+use Rattle.words.proofs.BytesLaws.{word_bytes}
 use borrow.Author.Rules.{rules}
 use Rattle.compare.proofs.segment.fill_byte.Statement.{statement}
 use Rattle.compare.proofs.segment.fill_byte.Tie as tie

@@ -9,7 +9,7 @@ use Rattle.plan.specs.Plan.{Piece}
 use Rattle.plan.specs.Packed.{plan_pieces}
 use Rattle.plan.specs.Meaning.{stretch}
 use Rattle.plan.specs.Code.{piece_is}
-use Rattle.plan.specs.Code.Laws.{Found, found}
+use Rattle.plan.proofs.CodeLaws.{Found, found}
 use Rattle.compare.specs.LastByte.Segment.{nothing, covering, border, covering-step, border-step, covering-end, border-end}
 use Rattle.compare.specs.Reading.Stretch.{stretch-shorter, stretch-piece}
 use Rattle.compare.specs.Code.Segment.{source_is, Reaches, writable-short, narrows}

@@ -1,6 +1,6 @@
 -- `comparison::comparison::compare_plans` meets its contract: what was found is read back from its bytes.
 use borrow.Author.Rules.{rules}
-use Rattle.comparison.specs.Code.Laws.{answer-bounded, answer-shown}
+use Rattle.comparison.proofs.CodeLaws.{answer-bounded, answer-shown}
 use Rattle.comparison.proofs.comparison.compare_plans.Statement.{statement}
 use Rattle.comparison.proofs.comparison.compare_plans.Tie as tie
 

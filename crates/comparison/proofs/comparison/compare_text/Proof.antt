@@ -1,7 +1,7 @@
 -- `comparison::comparison::compare_text` meets its contract: the limits in their order, then the plans.
 use borrow.Author.Rules.{rules}
 use native.Mathlib.Omega.{arith}
-use Rattle.comparison.specs.Code.Laws.{old-too-long, new-too-long, both-short, prints-for}
+use Rattle.comparison.proofs.CodeLaws.{old-too-long, new-too-long, both-short, prints-for}
 use Rattle.comparison.proofs.comparison.compare_text.Statement.{statement}
 use Rattle.comparison.proofs.comparison.compare_text.Tie as tie
 

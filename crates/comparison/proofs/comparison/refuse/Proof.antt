@@ -4,9 +4,9 @@ use mathlib.Core.Path.{refl, ap, ◌∙◌}
 use native.Mathlib.Omega.{arith}
 use lib.ListN.{length}
 use Rattle.words.specs.Store.{store}
-use Rattle.text.specs.Decimal.Laws.{width-most}
-use Rattle.text.specs.Refusal.Laws.{length-line}
-use Rattle.comparison.specs.Code.Laws.{line-fitting}
+use Rattle.text.proofs.DecimalLaws.{width-most}
+use Rattle.text.proofs.RefusalLaws.{length-line}
+use Rattle.comparison.proofs.CodeLaws.{line-fitting}
 use Rattle.comparison.proofs.comparison.refuse.Statement.{statement}
 use Rattle.comparison.proofs.comparison.refuse.Tie as tie
 

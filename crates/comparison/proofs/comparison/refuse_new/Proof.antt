@@ -1,6 +1,6 @@
 -- `comparison::comparison::refuse_new` meets its contract: the old plan's refusal comes first.
 use borrow.Author.Rules.{rules}
-use Rattle.comparison.specs.Code.Laws.{old-first, new-next}
+use Rattle.comparison.proofs.CodeLaws.{old-first, new-next}
 use Rattle.comparison.proofs.comparison.refuse_new.Statement.{statement}
 use Rattle.comparison.proofs.comparison.refuse_new.Tie as tie
 

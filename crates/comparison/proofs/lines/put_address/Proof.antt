@@ -3,7 +3,7 @@ use borrow.Author.Rules.{rules}
 use native.Mathlib.Omega.{arith}
 use Prim.Native.Nat.{◌+◌}
 use Rattle.text.specs.Hex.{hex}
-use Rattle.text.specs.Digits.Laws.{length_digits}
+use Rattle.text.proofs.DigitsLaws.{length_digits}
 use Rattle.comparison.specs.Lines.Laws.{byte-behind}
 use Rattle.comparison.proofs.lines.put_address.Statement.{statement}
 use Rattle.comparison.proofs.lines.put_address.Tie as tie

@@ -4,8 +4,8 @@ use native.Mathlib.Omega.{arith}
 use lib.ListN.{length}
 use Rattle.plan.specs.Code.Packer.{outcome_is}
 use Rattle.conversion.specs.Conversion.{pack_for}
-use Rattle.conversion.specs.Conversion.Laws.{image-fits, too_long, short}
-use Rattle.conversion.specs.Shown.Laws.{shown-done}
+use Rattle.conversion.proofs.ConversionLaws.{image-fits, too_long, short}
+use Rattle.conversion.proofs.ShownLaws.{shown-done}
 use Rattle.conversion.proofs.convert.convert.Statement.{statement}
 use Rattle.conversion.proofs.convert.convert.Tie as tie
 

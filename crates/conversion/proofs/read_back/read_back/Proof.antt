@@ -7,8 +7,8 @@ use lib.ListN.{length}
 use lib.Seq.{length-take-le}
 use Rattle.plan.specs.Code.Packer.{outcome_is}
 use Rattle.aplx_read.specs.ReadBack.{read_back}
-use Rattle.conversion.specs.Restored.Laws.{plan-fits, too_long, short}
-use Rattle.conversion.specs.Shown.Laws.{shown-done}
+use Rattle.conversion.proofs.RestoredLaws.{plan-fits, too_long, short}
+use Rattle.conversion.proofs.ShownLaws.{shown-done}
 use Rattle.conversion.proofs.read_back.read_back.Statement.{statement}
 use Rattle.conversion.proofs.read_back.read_back.Tie as tie
 

@@ -1,5 +1,5 @@
 -- `flood_fill::flags::is_set` meets its contract: a flag past the end counts as set.
-use Rattle.flood_fill.specs.Receive.Flags.{same-element}
+use Rattle.flood_fill.proofs.ReceiveFlags.{same-element}
 use lib.ListN.{get_or-eq_default}
 use mathlib.Core.Bool.{true, false}
 use mathlib.Core.Path.{sym}

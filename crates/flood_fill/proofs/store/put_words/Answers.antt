@@ -1,7 +1,7 @@
 -- `flood_fill::store::put_words` meets its contract: the words fit, or the image is left.
-use Rattle.flood_fill.specs.Receive.Laws.{length-word_bytes}
+use Rattle.flood_fill.proofs.ReceiveLaws.{length-word_bytes}
 use Rattle.flood_fill.specs.Receive.{word_bytes}
-use Rattle.words.specs.Store.Laws.{store-fits, store-unfit}
+use Rattle.words.proofs.StoreLaws.{store-fits, store-unfit}
 use borrow.Author.Tests.{leb-true, leb-false}
 use lib.ListN.{length}
 use Prim.Native.Nat.{◌+◌, ◌*◌}

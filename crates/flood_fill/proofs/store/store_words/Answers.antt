@@ -1,10 +1,10 @@
 -- `flood_fill::store::store_words` meets its contract: the loop's invariant: the first i words are stored.
-use Rattle.flood_fill.specs.Receive.Laws.{bytes-more}
-use Rattle.flood_fill.specs.Receive.Laws.{length-word_bytes}
+use Rattle.flood_fill.proofs.ReceiveLaws.{bytes-more}
+use Rattle.flood_fill.proofs.ReceiveLaws.{length-word_bytes}
 use Rattle.flood_fill.specs.Receive.{word_bytes}
-use Rattle.words.specs.Bytes.Laws.{length-little_endian}
+use Rattle.words.proofs.BytesLaws.{length-little_endian}
 use Rattle.words.specs.Bytes.{little_endian}
-use Rattle.words.specs.Store.Laws.{store-behind, store-nil, length-store}
+use Rattle.words.proofs.StoreLaws.{store-behind, store-nil, length-store}
 use Rattle.words.specs.Store.{store}
 use lib.Seq.{take_all, length-take-le}
 use lib.ListN.{length, take, get_or, length-append}

@@ -9,7 +9,7 @@ use Rattle.flood_fill.specs.declared.message.Message.{Message}
 use Rattle.flood_fill.specs.declared.header.Header.{Header}
 use Rattle.flood_fill.specs.declared.test.Tested.{Tested}
 use Rattle.flood_fill.specs.Refusals.{declared_words, own_tests, tested}
-use Rattle.flood_fill.specs.Refusals.Laws.{tested-short, tested-long}
+use Rattle.flood_fill.proofs.RefusalsLaws.{tested-short, tested-long}
 use Rattle.flood_fill.proofs.test.test.Goals as goal
 
 -- whole words of an image, against its bytes

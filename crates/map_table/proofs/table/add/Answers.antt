@@ -4,9 +4,9 @@ use mathlib.Core.Path.{◌≡◌, ap, sym, ◌∙◌}
 use native.Mathlib.Omega.{arith}
 use Rattle.memory_map.specs.declared.map.Verdict.{Verdict}
 use Rattle.memory_map.specs.Map.{Addition, add, verdict_of, addition_of}
-use Rattle.memory_map.specs.Map.Added.{taken-few}
+use Rattle.memory_map.proofs.MapAdded.{taken-few}
 use Rattle.map_table.specs.Table.{region_of, map_of, table_of, addition}
-use Rattle.map_table.specs.Table.Laws.{regular-whole, taken-regular, over-addition, known-addition, after-taken, after-refused}
+use Rattle.map_table.proofs.TableLaws.{regular-whole, taken-regular, over-addition, known-addition, after-taken, after-refused}
 use Rattle.map_table.proofs.table.add.Goals as goal
 use Rattle.map_table.proofs.table.add.Goals.{After-add-addition}
 

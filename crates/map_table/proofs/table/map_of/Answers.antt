@@ -2,7 +2,7 @@
 use mathlib.Core.Path.{sym, ◌∙◌}
 use borrow.Author.Tests.{not-true, not-false}
 use Rattle.map_table.specs.Table.{regions_in}
-use Rattle.map_table.specs.Table.Laws.{map-of-table, map-of-other}
+use Rattle.map_table.proofs.TableLaws.{map-of-table, map-of-other}
 use Rattle.map_table.proofs.table.map_of.Goals as goal
 
 pub returns-then-not-regular : goal.returns-then-not-regular

@@ -1,7 +1,7 @@
 -- `map_table::table::number_of` meets its contract: the sum is the definition's, and is below 8.
 use native.Mathlib.Omega.{arith}
 use Rattle.map_table.specs.Table.{rights_number}
-use Rattle.map_table.specs.Table.Written.{bit_below}
+use Rattle.map_table.proofs.TableWritten.{bit_below}
 use Rattle.map_table.proofs.table.number_of.Goals as goal
 
 pub overflow_add-result : goal.overflow_add-result

@@ -3,9 +3,9 @@ use mathlib.Core.Path.{◌≡◌, sym, ◌∙◌}
 use Prim.Native.Nat.{◌-◌}
 use native.Mathlib.Omega.{arith}
 use lib.ListN.{length, length-map}
-use Rattle.words.specs.Store.Laws.{store-nil}
+use Rattle.words.proofs.StoreLaws.{store-nil}
 use Rattle.map_table.specs.Table.{regions_bytes}
-use Rattle.map_table.specs.Table.Put.{region-put, table-put}
+use Rattle.map_table.proofs.TablePut.{region-put, table-put}
 use Rattle.map_table.proofs.table.put_table.Goals as goal
 use Rattle.map_table.proofs.table.put_table.Goals.{Start}
 

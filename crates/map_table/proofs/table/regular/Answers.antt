@@ -1,7 +1,7 @@
 -- `map_table::table::regular` meets its contract: the tests are those of the definition, in its order.
 use mathlib.Core.Path.{sym, ◌∙◌}
 use native.Mathlib.Omega.{arith}
-use Rattle.map_table.specs.Table.Laws.{other_length, over-count, by-rights}
+use Rattle.map_table.proofs.TableLaws.{other_length, over-count, by-rights}
 use Rattle.map_table.proofs.table.regular.Goals as goal
 
 pub returns-then-table-ne-TABLE : goal.returns-then-table-ne-TABLE

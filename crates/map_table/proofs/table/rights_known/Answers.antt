@@ -3,7 +3,7 @@ use mathlib.Core.Path.{◌≡◌, ap, sym, ◌∙◌}
 use Prim.Native.Nat.{ℕ, ◌-◌}
 use native.Mathlib.Omega.{arith}
 use Rattle.map_table.specs.Table.{rights_known}
-use Rattle.map_table.specs.Table.Laws.{rights-over, rights-next, rights-none}
+use Rattle.map_table.proofs.TableLaws.{rights-over, rights-next, rights-none}
 use Rattle.map_table.proofs.table.rights_known.Goals as goal
 
 pub loop-i-init : goal.loop-i-init

@@ -1,6 +1,6 @@
 -- `memory_region::region::apart` meets its contract: one range ends where the other begins, or before, or one is empty; else they share a number.
 use native.Mathlib.Omega.{arith}
-use Rattle.words.specs.Range.Laws.{before, behind, apart-misses, meets-empty, misses-by-length}
+use Rattle.words.proofs.RangeLaws.{before, behind, apart-misses, meets-empty, misses-by-length}
 use Rattle.memory_region.proofs.region.apart.Goals as goal
 
 pub returns-then-a-n : goal.returns-then-a-n

@@ -2,7 +2,7 @@
 use mathlib.Core.Path.{◌≡◌, ap, sym, ◌∙◌}
 use native.Mathlib.Omega.{arith}
 use Rattle.plan.specs.Plan.{counts, judge_header, read_plan}
-use Rattle.plan.specs.Plan.Laws.{header-passed}
+use Rattle.plan.proofs.PlanLaws.{header-passed}
 use Rattle.plan.specs.Code.{header_is}
 use Rattle.plan.proofs.read.read.Goals as goal
 use Rattle.plan.proofs.read.read.Goals.{In-Good}

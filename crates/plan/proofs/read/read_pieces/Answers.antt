@@ -6,7 +6,7 @@ use native.Mathlib.Omega.{arith}
 use lib.ListN.{length}
 use Rattle.plan.specs.Plan.{data_of, filled_by, good, piece_at}
 use Rattle.plan.specs.Code.{unit_of, row_is, judged_is, piece_is}
-use Rattle.plan.specs.Code.Laws.{Lengths, read-lengths}
+use Rattle.plan.proofs.CodeLaws.{Lengths, read-lengths}
 use Rattle.plan.proofs.Reading.{counts_start, counts-good, counts-bad, counts_end}
 use Rattle.plan.proofs.read.read_pieces.Goals as goal
 use Rattle.plan.proofs.read.read_pieces.Goals.{At-loop-i, In-Good}

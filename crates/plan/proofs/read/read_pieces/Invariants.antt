@@ -2,7 +2,7 @@ use mathlib.Core.Path.{◌≡◌}
 use Prim.Native.Nat.{◌+◌, ◌-◌, ◌*◌, ◌≤◌}
 use Rattle.plan.specs.Plan.{read_pieces}
 use Rattle.plan.specs.Code.{unit_of, outcome_of}
-use Rattle.plan.specs.Code.Counting.{outcome_after}
+use Rattle.plan.proofs.CodeCounting.{outcome_after}
 use Rattle.plan.proofs.read.read_pieces.Given as goal
 
 abbrev pub invariant-loop-i : goal.invariant-loop-i

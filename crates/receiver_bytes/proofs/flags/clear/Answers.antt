@@ -4,7 +4,7 @@ use mathlib.Core.Path.{◌≡◌, refl, ap, sym, ◌∙◌}
 use Prim.Native.Nat.{◌-◌}
 use lib.ListN.{length, replicate, length-set}
 use lib.Seq.{take_all}
-use Rattle.receiver_bytes.specs.Receiver.Flags.{one-more-zero}
+use Rattle.receiver_bytes.proofs.ReceiverFlags.{one-more-zero}
 use Rattle.receiver_bytes.proofs.flags.clear.Goals as goal
 
 pub loop-i-init : goal.loop-i-init

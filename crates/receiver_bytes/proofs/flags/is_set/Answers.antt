@@ -1,6 +1,6 @@
 -- `receiver_bytes::flags::is_set` meets its contract: a flag that is there, or past the end.
 use mathlib.Core.Path.{sym}
-use Rattle.receiver_bytes.specs.Receiver.Flags.{flag_at, flag-past}
+use Rattle.receiver_bytes.proofs.ReceiverFlags.{flag_at, flag-past}
 use Rattle.receiver_bytes.proofs.flags.is_set.Goals as goal
 
 pub returns-then-at-flags : goal.returns-then-at-flags

@@ -2,8 +2,8 @@
 use native.Mathlib.Omega.{arith}
 use Prim.Native.Nat.{◌-◌}
 use Rattle.receiver_bytes.specs.Receiver.{flags_in}
-use Rattle.flood_fill.specs.Receive.Flags.{lowest_set, lowest-empty, lowest-none}
-use Rattle.receiver_bytes.specs.Receiver.Flags.{length-flags, zero_flag, other-flag}
+use Rattle.flood_fill.proofs.ReceiveFlags.{lowest_set, lowest-empty, lowest-none}
+use Rattle.receiver_bytes.proofs.ReceiverFlags.{length-flags, zero_flag, other-flag}
 use Rattle.receiver_bytes.proofs.flags.lowest.Goals as goal
 
 pub returns-then-flags-i-eq0 : goal.returns-then-flags-i-eq0

@@ -3,8 +3,8 @@ use native.Mathlib.Omega.{arith}
 use mathlib.Core.Logic.{⊎_elim}
 use Prim.Native.Nat.{◌-◌}
 use Rattle.receiver_bytes.specs.Receiver.{flags_in}
-use Rattle.flood_fill.specs.Receive.Flags.{missing-set, missing-empty, missing-none}
-use Rattle.receiver_bytes.specs.Receiver.Flags.{length-flags, zero_flag, other-flag}
+use Rattle.flood_fill.proofs.ReceiveFlags.{missing-set, missing-empty, missing-none}
+use Rattle.receiver_bytes.proofs.ReceiverFlags.{length-flags, zero_flag, other-flag}
 use Rattle.receiver_bytes.proofs.flags.missing.Goals as goal
 
 pub loop-i-preserved : goal.loop-i-preserved

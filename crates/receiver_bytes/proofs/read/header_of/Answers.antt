@@ -1,6 +1,6 @@
 -- `receiver_bytes::read::header_of` meets its contract: each number is that of two bytes of the receiver.
 use native.Mathlib.Omega.{arith}
-use Rattle.words.specs.Bytes.Laws.{little-at-part}
+use Rattle.words.proofs.BytesLaws.{little-at-part}
 use Rattle.receiver_bytes.specs.Receiver.{header_in}
 use Rattle.receiver_bytes.proofs.read.header_of.Goals as goal
 

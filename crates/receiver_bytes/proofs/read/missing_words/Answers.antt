@@ -6,7 +6,7 @@ use lib.ListN.{take, drop}
 use lib.Seq.{take-take}
 use Rattle.flood_fill.specs.Receive.{missing_in}
 use Rattle.receiver_bytes.specs.Receiver.{receiver_in}
-use Rattle.receiver_bytes.specs.Receiver.Flags.{take-flags}
+use Rattle.receiver_bytes.proofs.ReceiverFlags.{take-flags}
 use Rattle.receiver_bytes.proofs.read.missing_words.Goals as goal
 
 pub returns : goal.returns

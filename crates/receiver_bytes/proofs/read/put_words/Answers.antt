@@ -3,9 +3,9 @@ use Rattle.words.specs.Bytes.{Bytes}
 use native.Mathlib.Omega.{arith}
 use mathlib.Core.Path.{◌≡◌}
 use Prim.Native.Nat.{◌+◌, ◌*◌, ◌-◌}
-use Rattle.words.specs.Choice.Laws.{all-elements}
+use Rattle.words.proofs.ChoiceLaws.{all-elements}
 use Rattle.receiver_bytes.specs.Receiver.{receiver_in}
-use Rattle.receiver_bytes.specs.Receiver.Words.{bytes-of-words}
+use Rattle.receiver_bytes.proofs.ReceiverWords.{bytes-of-words}
 use Rattle.receiver_bytes.proofs.read.put_words.Goals as goal
 
 pub returns : goal.returns

@@ -2,7 +2,7 @@
 use mathlib.Core.Path.{refl, sym, ◌∙◌}
 use borrow.Author.Tests.{not-true, not-false}
 use Rattle.flood_fill.specs.declared.message.Message.TheVariants.{BlockData}
-use Rattle.receiver_bytes.specs.Receiver.Cases.{when-refused, when-passed, data-unwanted, data-marked, data-accepted, unmarked-below}
+use Rattle.receiver_bytes.proofs.ReceiverCases.{when-refused, when-passed, data-unwanted, data-marked, data-accepted, unmarked-below}
 use Rattle.receiver_bytes.specs.Receiver.{written}
 use Rattle.receiver_bytes.proofs.receiver.block_data.Goals as goal
 

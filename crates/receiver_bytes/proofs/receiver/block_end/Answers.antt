@@ -5,7 +5,7 @@ use Prim.Native.Nat.{◌*◌, ◌≤◌}
 use native.Mathlib.Nat.{mul-le-mul_right}
 use borrow.Author.Tests.{lt-ltb, le-ltb}
 use Rattle.flood_fill.specs.declared.message.Message.TheVariants.{BlockEnd}
-use Rattle.receiver_bytes.specs.Receiver.Cases.{when-refused, when-passed, end-missing, end-done}
+use Rattle.receiver_bytes.proofs.ReceiverCases.{when-refused, when-passed, end-missing, end-done}
 use Rattle.receiver_bytes.proofs.receiver.block_end.Goals as goal
 use Rattle.receiver_bytes.proofs.receiver.block_end.Goals.{After-struct_known-1}
 

@@ -3,8 +3,8 @@ use native.Mathlib.Omega.{arith}
 use mathlib.Core.Path.{refl, sym, ◌∙◌}
 use lib.ListN.{length}
 use Rattle.flood_fill.specs.declared.message.Message.TheVariants.{BlockStart}
-use Rattle.flood_fill.specs.Refusals.Laws.{passed-own, BlockFits, block-fits}
-use Rattle.receiver_bytes.specs.Receiver.Cases.{when-refused, when-passed, block-ignored, block-accepted}
+use Rattle.flood_fill.proofs.RefusalsLaws.{passed-own, BlockFits, block-fits}
+use Rattle.receiver_bytes.proofs.ReceiverCases.{when-refused, when-passed, block-ignored, block-accepted}
 use Rattle.receiver_bytes.proofs.receiver.block_start.Goals as goal
 use Rattle.receiver_bytes.proofs.receiver.block_start.Goals.{After-open-arg-1}
 

@@ -4,9 +4,9 @@ use mathlib.Core.Path.{refl, sym, ◌∙◌}
 use Prim.Native.Nat.{suc}
 use lib.ListN.{length}
 use Rattle.flood_fill.specs.declared.message.Message.TheVariants.{Start}
-use Rattle.flood_fill.specs.Limits.Laws.{Limits}
-use Rattle.flood_fill.specs.Refusals.Laws.{passed-own, start-limits}
-use Rattle.receiver_bytes.specs.Receiver.Cases.{when-refused, when-passed, start-accepted}
+use Rattle.flood_fill.proofs.LimitsLaws.{Limits}
+use Rattle.flood_fill.proofs.RefusalsLaws.{passed-own, start-limits}
+use Rattle.receiver_bytes.proofs.ReceiverCases.{when-refused, when-passed, start-accepted}
 use Rattle.receiver_bytes.proofs.receiver.start.Goals as goal
 use Rattle.receiver_bytes.proofs.receiver.start.Goals.{After-begin-arg-1}
 

@@ -7,7 +7,7 @@ use lib.ListN.{length, set, replicate}
 use borrow.Author.Tests.{lt-ltb, le-ltb}
 use Rattle.words.specs.Bytes.{little_endian}
 use Rattle.words.specs.Store.{store, store_if_fits}
-use Rattle.words.specs.Store.Laws.{store-fits}
+use Rattle.words.proofs.StoreLaws.{store-fits}
 use Rattle.receiver_bytes.specs.Receiver.{written}
 use Rattle.receiver_bytes.proofs.write.close.Goals as goal
 

@@ -4,8 +4,8 @@ use native.Mathlib.Omega.{arith}
 use mathlib.Core.Path.{◌∙◌}
 use Prim.Native.Nat.{◌+◌, ◌*◌}
 use Rattle.words.specs.Bytes.{little_endian}
-use Rattle.words.specs.Bytes.Laws.{length-little_endian}
-use Rattle.words.specs.Store.Laws.{store-fits}
+use Rattle.words.proofs.BytesLaws.{length-little_endian}
+use Rattle.words.proofs.StoreLaws.{store-fits}
 use Rattle.receiver_bytes.proofs.write.keep.Goals as goal
 
 pub returns : goal.returns

@@ -2,13 +2,13 @@
 use Prim.Native.Nat.{◌≤◌}
 use lib.ListN.{length, replicate}
 use borrow.Rule.Slice.PartMut.{mid_len}
-use Rattle.words.specs.Bytes.Laws.{length-little_endian}
+use Rattle.words.proofs.BytesLaws.{length-little_endian}
 use Rattle.words.specs.Store.{store}
 use native.Mathlib.Omega.{arith}
 use mathlib.Core.Path.{◌≡◌, ◌∙◌, ap}
 use mathlib.Core.List.{◌++◌}
 use Rattle.words.specs.Bytes.{little_endian}
-use Rattle.words.specs.Store.Laws.{store-fits, store-part, store-behind}
+use Rattle.words.proofs.StoreLaws.{store-fits, store-part, store-behind}
 use Rattle.receiver_bytes.specs.Receiver.{written}
 use Rattle.receiver_bytes.proofs.write.open.Goals as goal
 

@@ -6,7 +6,7 @@ use Rattle.compare.specs.Compare.{compared}
 use Rattle.compare.specs.Code.{outcome_is}
 use Rattle.outcome_numbers.specs.Numbers.{compared_parts}
 use Rattle.reidhintsje.specs.Calls.{found_bytes}
-use Rattle.reidhintsje.specs.Calls.Laws.{put-call}
+use Rattle.reidhintsje.proofs.CallsLaws.{put-call}
 use Rattle.reidhintsje.specs.Calls.Comparison.{few, bytes-found}
 use borrow.Author.Rules.{rules}
 use Rattle.reidhintsje.proofs.comparison.reidhintsje_compare.Statement.{statement}

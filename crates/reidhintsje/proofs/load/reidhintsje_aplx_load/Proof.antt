@@ -1,6 +1,6 @@
 -- `reidhintsje::load::reidhintsje_aplx_load` meets its contract: what the loader answers with the map of the table, as numbers.
 use borrow.Author.Rules.{rules}
-use Rattle.reidhintsje.specs.Calls.Laws.{load-call}
+use Rattle.reidhintsje.proofs.CallsLaws.{load-call}
 use Rattle.reidhintsje.proofs.load.reidhintsje_aplx_load.Statement.{statement}
 use Rattle.reidhintsje.proofs.load.reidhintsje_aplx_load.Tie as tie
 

@@ -1,6 +1,6 @@
 -- `reidhintsje::message::reidhintsje_flood_fill_start` meets its contract: what the receiver answers, as numbers.
 use borrow.Author.Rules.{rules}
-use Rattle.reidhintsje.specs.Calls.Laws.{message-call}
+use Rattle.reidhintsje.proofs.CallsLaws.{message-call}
 use Rattle.reidhintsje.proofs.message.reidhintsje_flood_fill_start.Statement.{statement}
 use Rattle.reidhintsje.proofs.message.reidhintsje_flood_fill_start.Tie as tie
 

@@ -1,6 +1,6 @@
 -- `reidhintsje::packet::reidhintsje_scp_answer` meets its contract: what the answerer answers with the map of the table, as numbers.
 use borrow.Author.Rules.{rules}
-use Rattle.reidhintsje.specs.Calls.Laws.{reply-call}
+use Rattle.reidhintsje.proofs.CallsLaws.{reply-call}
 use Rattle.reidhintsje.proofs.packet.reidhintsje_scp_answer.Statement.{statement}
 use Rattle.reidhintsje.proofs.packet.reidhintsje_scp_answer.Tie as tie
 

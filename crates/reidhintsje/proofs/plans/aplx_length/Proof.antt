@@ -7,10 +7,10 @@ use native.Mathlib.Omega.{arith}
 use Rattle.plan.specs.Plan.{read_plan}
 use Rattle.plan.specs.Packed.{plan_pieces}
 use Rattle.plan.specs.Code as reader
-use Rattle.plan.specs.Code.Packer.Laws.{refused-length}
-use Rattle.plan.specs.Code.Laws.{Counted, counted}
+use Rattle.plan.proofs.CodePackerLaws.{refused-length}
+use Rattle.plan.proofs.CodeLaws.{Counted, counted}
 use Rattle.aplx_pack.specs.Image.{aplx_image}
-use Rattle.aplx_pack.specs.Image.Laws.{length-aplx_image}
+use Rattle.aplx_pack.proofs.ImageLaws.{length-aplx_image}
 use Rattle.reidhintsje.proofs.plans.aplx_length.Statement.{statement}
 use Rattle.reidhintsje.proofs.plans.aplx_length.Tie as tie
 

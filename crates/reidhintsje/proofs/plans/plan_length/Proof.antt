@@ -5,13 +5,13 @@ use mathlib.Core.List.{List}
 use Prim.Native.Nat.{ℕ}
 use native.Mathlib.Omega.{arith}
 use Rattle.plan.specs.Code as reader
-use Rattle.plan.specs.Code.Packer.Laws.{refused-length}
-use Rattle.plan.specs.Code.Laws.{Counted}
+use Rattle.plan.proofs.CodePackerLaws.{refused-length}
+use Rattle.plan.proofs.CodeLaws.{Counted}
 use Rattle.aplx_read.specs.PlanBytes.{plan_bytes}
-use Rattle.aplx_read.specs.PlanBytes.Laws.{length-plan_bytes}
+use Rattle.aplx_read.proofs.PlanBytesLaws.{length-plan_bytes}
 use Rattle.aplx_read.specs.ReadBack.{read_image}
 use Rattle.aplx_read.specs.Code.{image_pieces}
-use Rattle.aplx_read.specs.Code.Laws.{counted}
+use Rattle.aplx_read.proofs.CodeLaws.{counted}
 use Rattle.reidhintsje.proofs.plans.plan_length.Statement.{statement}
 use Rattle.reidhintsje.proofs.plans.plan_length.Tie as tie
 

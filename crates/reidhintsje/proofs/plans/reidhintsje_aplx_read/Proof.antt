@@ -4,7 +4,7 @@ use mathlib.Core.Path.{sym, ◌∙◌}
 use Rattle.aplx_read.specs.PlanBytes.{plan_bytes}
 use Rattle.aplx_read.specs.ReadBack.{read_image}
 use Rattle.plan.specs.Packed.{written_length}
-use Rattle.reidhintsje.specs.Calls.Laws.{small-call, other-call}
+use Rattle.reidhintsje.proofs.CallsLaws.{small-call, other-call}
 use Rattle.reidhintsje.proofs.plans.reidhintsje_aplx_read.Statement.{statement}
 use Rattle.reidhintsje.proofs.plans.reidhintsje_aplx_read.Tie as tie
 

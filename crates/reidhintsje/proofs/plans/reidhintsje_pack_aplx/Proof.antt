@@ -4,7 +4,7 @@ use mathlib.Core.Path.{sym, ◌∙◌}
 use Rattle.plan.specs.Plan.{read_plan}
 use Rattle.aplx_pack.specs.Image.{aplx_image}
 use Rattle.plan.specs.Packed.{written_length}
-use Rattle.reidhintsje.specs.Calls.Laws.{small-call, other-call}
+use Rattle.reidhintsje.proofs.CallsLaws.{small-call, other-call}
 use Rattle.reidhintsje.proofs.plans.reidhintsje_pack_aplx.Statement.{statement}
 use Rattle.reidhintsje.proofs.plans.reidhintsje_pack_aplx.Tie as tie
 

@@ -4,7 +4,7 @@ use mathlib.Core.Path.{sym, ◌∙◌}
 use Rattle.plan.specs.Plan.{read_plan}
 use Rattle.srom_pack.specs.Image.{srom_image}
 use Rattle.plan.specs.Packed.{written_length}
-use Rattle.reidhintsje.specs.Calls.Laws.{small-call, other-call}
+use Rattle.reidhintsje.proofs.CallsLaws.{small-call, other-call}
 use Rattle.reidhintsje.proofs.plans.reidhintsje_pack_srom.Statement.{statement}
 use Rattle.reidhintsje.proofs.plans.reidhintsje_pack_srom.Tie as tie
 

@@ -2,7 +2,7 @@
 use borrow.Author.Rules.{rules}
 use mathlib.Core.Path.{ap, ◌∙◌}
 use Rattle.outcome_numbers.specs.Numbers.{read_parts}
-use Rattle.reidhintsje.specs.Calls.Laws.{put-call}
+use Rattle.reidhintsje.proofs.CallsLaws.{put-call}
 use Rattle.reidhintsje.proofs.plans.reidhintsje_plan_read.Statement.{statement}
 use Rattle.reidhintsje.proofs.plans.reidhintsje_plan_read.Tie as tie
 

@@ -7,10 +7,10 @@ use native.Mathlib.Omega.{arith}
 use Rattle.plan.specs.Plan.{read_plan}
 use Rattle.plan.specs.Packed.{plan_pieces}
 use Rattle.plan.specs.Code as reader
-use Rattle.plan.specs.Code.Packer.Laws.{refused-length}
-use Rattle.plan.specs.Code.Laws.{Counted, counted}
+use Rattle.plan.proofs.CodePackerLaws.{refused-length}
+use Rattle.plan.proofs.CodeLaws.{Counted, counted}
 use Rattle.srom_pack.specs.Image.{srom_image}
-use Rattle.srom_pack.specs.Image.Laws.{length-srom_image}
+use Rattle.srom_pack.proofs.ImageLaws.{length-srom_image}
 use Rattle.reidhintsje.proofs.plans.srom_length.Statement.{statement}
 use Rattle.reidhintsje.proofs.plans.srom_length.Tie as tie
 

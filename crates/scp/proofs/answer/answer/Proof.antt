@@ -4,9 +4,9 @@ use mathlib.Core.Path.{sym, ◌∙◌}
 use native.Mathlib.Omega.{arith}
 use borrow.Author.Tests.{lt-ltb, le-ltb, not-true, not-false}
 use lib.ListN.{length}
-use Rattle.scp.specs.Answer.Laws.{coded-answer}
+use Rattle.scp.proofs.AnswerLaws.{coded-answer}
 use Rattle.scp.specs.Answer.{packet, reaction, scp_answer}
-use Rattle.words.specs.Store.Laws.{store-nil}
+use Rattle.words.proofs.StoreLaws.{store-nil}
 use Rattle.scp.proofs.answer.answer.Statement.{statement}
 use Rattle.scp.proofs.answer.answer.Tie as tie
 

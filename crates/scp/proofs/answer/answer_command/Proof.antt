@@ -3,9 +3,9 @@ use borrow.Author.Rules.{rules}
 use mathlib.Core.Path.{sym, ◌∙◌}
 use native.Mathlib.Omega.{arith}
 use borrow.Author.Tests.{eq-eqb, ne_eqb}
-use Rattle.scp.specs.Answer.Laws.{coded-answer}
+use Rattle.scp.proofs.AnswerLaws.{coded-answer}
 use Rattle.scp.specs.Answer.{command}
-use Rattle.scp.specs.Reply.Laws.{length-version}
+use Rattle.scp.proofs.ReplyLaws.{length-version}
 use Rattle.words.specs.Bytes.{little_endian_at}
 use Rattle.scp.proofs.answer.answer_command.Statement.{statement}
 use Rattle.scp.proofs.answer.answer_command.Tie as tie

@@ -5,8 +5,8 @@ use native.Mathlib.Omega.{arith}
 use lib.ListN.{take, drop, length-drop}
 use lib.Seq.{length-take-le}
 use Rattle.words.specs.Bytes.{little_endian}
-use Rattle.words.specs.Bytes.Laws.{length-little_endian}
-use Rattle.words.specs.Store.Laws.{store-fits, store-behind}
+use Rattle.words.proofs.BytesLaws.{length-little_endian}
+use Rattle.words.proofs.StoreLaws.{store-fits, store-behind}
 use Rattle.scp.proofs.reply.coded.Statement.{statement}
 use Rattle.scp.proofs.reply.coded.Tie as tie
 use Rattle.scp.specs.Reply.{header}

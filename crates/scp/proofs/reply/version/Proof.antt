@@ -5,9 +5,9 @@ use mathlib.Core.List.{append_assoc}
 use Prim.Native.Nat.{◌≤◌}
 use native.Mathlib.Omega.{arith}
 use lib.ListN.{length}
-use Rattle.words.specs.Bytes.Laws.{length-little_endian}
+use Rattle.words.proofs.BytesLaws.{length-little_endian}
 use Rattle.scp.specs.Reply.{header, name, version}
-use Rattle.scp.specs.Reply.Laws.{length-header}
+use Rattle.scp.proofs.ReplyLaws.{length-header}
 use Rattle.scp.proofs.Replies.{Put, put-behind}
 use Rattle.scp.proofs.reply.version.Statement.{statement}
 use Rattle.scp.proofs.reply.version.Tie as tie

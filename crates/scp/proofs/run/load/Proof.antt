@@ -5,7 +5,7 @@ use native.Mathlib.Omega.{arith}
 use borrow.Author.Tests.{lt-ltb, le-ltb}
 use lib.ListN.{length}
 use Rattle.aplx.specs.Load.Laws.{sound-load}
-use Rattle.scp.specs.Answer.Laws.{coded-answer}
+use Rattle.scp.proofs.AnswerLaws.{coded-answer}
 use Rattle.scp.specs.Answer.{load_packet}
 use Rattle.scp.proofs.run.load.Statement.{statement}
 use Rattle.scp.proofs.run.load.Tie as tie

@@ -3,8 +3,8 @@ use borrow.Author.Rules.{rules}
 use mathlib.Core.List.{List}
 use Prim.Native.Nat.{ℕ}
 use native.Mathlib.Omega.{arith}
-use Rattle.scp.specs.Answer.Laws.{coded-answer}
-use Rattle.words.specs.Store.Laws.{store-nil}
+use Rattle.scp.proofs.AnswerLaws.{coded-answer}
+use Rattle.words.proofs.StoreLaws.{store-nil}
 use Rattle.scp.proofs.run.loaded.Statement.{statement}
 use Rattle.scp.proofs.run.loaded.Tie as tie
 

@@ -6,8 +6,8 @@ use Prim.Native.Nat.{ℕ}
 use native.Mathlib.Omega.{arith}
 use borrow.Author.Tests.{lt-ltb, le-ltb}
 use lib.ListN.{length}
-use Rattle.words.specs.Store.Laws.{store-nil}
-use Rattle.scp.specs.Answer.Laws.{coded-answer}
+use Rattle.words.proofs.StoreLaws.{store-nil}
+use Rattle.scp.proofs.AnswerLaws.{coded-answer}
 use Rattle.scp.specs.Answer.{run_packet}
 use Rattle.memory_map.specs.Entry.{run_entry_of}
 use Rattle.scp.proofs.run.run.Statement.{statement}

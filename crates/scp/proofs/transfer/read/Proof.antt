@@ -8,7 +8,7 @@ use Rattle.scp.proofs.Transfers.{coded-return}
 use Rattle.scp.proofs.transfer.read.Statement.{statement}
 use Rattle.scp.proofs.transfer.read.Tie as tie
 use Rattle.scp_packet.specs.Code.{transfer_is}
-use Rattle.scp_packet.specs.Transfer.Laws.{moved}
+use Rattle.scp_packet.proofs.TransferLaws.{moved}
 
 judge-requires : tie.Need-judge-requires
 judge-requires c κs = search rules

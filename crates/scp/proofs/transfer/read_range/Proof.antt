@@ -6,7 +6,7 @@ use native.Mathlib.Omega.{arith}
 use lib.ListN.{length}
 use Rattle.memory_region.specs.declared.region.Right.TheVariants.{Read}
 use Rattle.memory_map.specs.Lookup.{at, lookup}
-use Rattle.memory_map.specs.Lookup.Laws.{lawful}
+use Rattle.memory_map.proofs.LookupLaws.{lawful}
 use Rattle.scp.proofs.Transfers.{looked, coded-return, data-return}
 use Rattle.scp.proofs.transfer.read_range.Statement.{statement}
 use Rattle.scp.proofs.transfer.read_range.Tie as tie

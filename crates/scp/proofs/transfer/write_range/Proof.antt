@@ -6,7 +6,7 @@ use lib.ListN.{length}
 use Rattle.words.specs.Store.{store}
 use Rattle.memory_region.specs.declared.region.Right.TheVariants.{Write}
 use Rattle.memory_map.specs.Lookup.{lookup}
-use Rattle.memory_map.specs.Lookup.Laws.{lawful}
+use Rattle.memory_map.proofs.LookupLaws.{lawful}
 use Rattle.scp.proofs.Transfers.{looked, coded-return, data-stored}
 use Rattle.scp.proofs.transfer.write_range.Statement.{statement}
 use Rattle.scp.proofs.transfer.write_range.Tie as tie

@@ -1,8 +1,8 @@
 -- `srom::load::load` meets its contract: a refused load leaves memory alone; an accepted one passed the tests that the storing asks for.
 use mathlib.Core.Path.{ap, sym, ◌∙◌}
 use lib.ListN.{length}
-use Rattle.outcome.specs.Outcome.Laws.{refused-keeps, accepted-leaves}
-use Rattle.srom.specs.Load.Laws.{Accepted, accepted-look}
+use Rattle.outcome.proofs.OutcomeLaws.{refused-keeps, accepted-leaves}
+use Rattle.srom.proofs.LoadLaws.{Accepted, accepted-look}
 use Rattle.srom.specs.Load.{srom_look, store_blocks, srom_load}
 use Rattle.outcome.specs.Outcome.{outcome_of}
 use Rattle.srom.proofs.load.load.Goals as goal

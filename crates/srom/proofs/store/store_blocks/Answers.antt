@@ -5,12 +5,12 @@ use Prim.Native.Nat.{ℕ, ◌+◌, ◌-◌, ◌≤◌}
 use lib.ListN.{length}
 use Rattle.srom.proofs.Loops.{Located, located, stores-on, stores-end}
 use Rattle.srom.specs.Code.{item_of}
-use Rattle.srom.specs.Walk.Laws.{pads-end-other}
+use Rattle.srom.proofs.WalkLaws.{pads-end-other}
 use Rattle.srom.specs.Walk.{item_at, block_in, pads_end}
-use Rattle.memory_map.specs.Lookup.Laws.{lawful}
+use Rattle.memory_map.proofs.LookupLaws.{lawful}
 use Rattle.memory_map.specs.Lookup.{lookup}
 use Rattle.memory_region.specs.declared.region.Right.TheVariants.{Write}
-use Rattle.words.specs.Store.Laws.{length-store, store-fits}
+use Rattle.words.proofs.StoreLaws.{length-store, store-fits}
 use Rattle.srom.proofs.store.store_blocks.Goals as goal
 use Rattle.srom.proofs.store.store_blocks.Goals.{After-item_at, In-Block}
 

@@ -4,7 +4,7 @@ use native.Mathlib.Omega.{arith}
 use borrow.Author.Tests.{eq-eqb, ne_eqb, le-ltb, lt-ltb}
 use Prim.Native.Nat.{◌+◌, ◌-◌}
 use lib.ListN.{length}
-use Rattle.words.specs.Bytes.Laws.{big-at-part}
+use Rattle.words.proofs.BytesLaws.{big-at-part}
 use Rattle.words.specs.Bytes.{big_endian_at}
 use Rattle.srom.specs.Walk.{block_at}
 use Rattle.srom.proofs.walk.block_item.Goals as goal

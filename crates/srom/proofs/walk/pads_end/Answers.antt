@@ -2,7 +2,7 @@
 use mathlib.Core.Path.{sym, ◌∙◌}
 use native.Mathlib.Omega.{arith}
 use Prim.Native.Nat.{◌-◌}
-use Rattle.srom.specs.Walk.Laws.{pads-next, pads-none, pads-past}
+use Rattle.srom.proofs.WalkLaws.{pads-next, pads-none, pads-past}
 use Rattle.srom.proofs.walk.pads_end.Goals as goal
 
 pub loop-i-preserved : goal.loop-i-preserved

@@ -4,7 +4,7 @@ use native.Mathlib.Omega.{arith}
 use Prim.Native.Nat.{ℕ, ◌-◌}
 use Rattle.srom.proofs.Loops.{counted_none, Located, located, counts-on, counts_end}
 use Rattle.srom.specs.Code.{item_of}
-use Rattle.srom.specs.Walk.Laws.{pads-end-other}
+use Rattle.srom.proofs.WalkLaws.{pads-end-other}
 use Rattle.srom.specs.Walk.{item_at, walk, pads_end}
 use Rattle.memory_map.specs.Lookup.{lookup}
 use Rattle.srom.proofs.walk.walk_blocks.Goals as goal

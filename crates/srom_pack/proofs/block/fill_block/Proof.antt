@@ -3,13 +3,13 @@ use mathlib.Core.Path.{ap, sym, ◌∙◌}
 use Prim.Native.Nat.{◌+◌}
 use native.Mathlib.Omega.{arith}
 use Rattle.words.specs.Bytes.{little_endian}
-use Rattle.words.specs.Bytes.Laws.{little_endian-turned}
+use Rattle.words.proofs.BytesLaws.{little_endian-turned}
 use Rattle.word_blocks.specs.Repeat.{filling}
-use Rattle.word_blocks.specs.Repeat.Laws.{length-filling, fill-part}
+use Rattle.word_blocks.proofs.RepeatLaws.{length-filling, fill-part}
 use Rattle.words.specs.Store.{store}
-use Rattle.words.specs.Store.Laws.{store-fits}
+use Rattle.words.proofs.StoreLaws.{store-fits}
 use Rattle.word_blocks.specs.Swap.{swap_words}
-use Rattle.word_blocks.specs.Swap.Laws.{length-swap, swap-filling}
+use Rattle.word_blocks.proofs.SwapLaws.{length-swap, swap-filling}
 use Rattle.srom_pack.proofs.Writing.{block-put}
 use borrow.Author.Rules.{rules}
 use Rattle.srom_pack.proofs.block.fill_block.Statement.{statement}

@@ -7,7 +7,7 @@ use lib.ListN.{length}
 use Rattle.word_blocks.specs.Swap.{swap_words}
 use Rattle.plan.specs.declared.piece.Piece.TheVariants.{Put, Fill}
 use Rattle.plan.specs.Code.Packer.{Writable}
-use Rattle.plan.specs.Plan.Laws.{data-length}
+use Rattle.plan.proofs.PlanLaws.{data-length}
 use Rattle.srom_pack.specs.Image.{block, block_of}
 use borrow.Author.Rules.{rules}
 use Rattle.srom_pack.proofs.block.write_block.Statement.{statement}

@@ -8,9 +8,9 @@ use lib.ListN.{length, set, length-set}
 use Rattle.plan.specs.Plan.{Piece}
 use Rattle.plan.specs.Packed.{plan_pieces}
 use Rattle.plan.specs.Code.{piece_is}
-use Rattle.plan.specs.Code.Laws.{Found, found}
+use Rattle.plan.proofs.CodeLaws.{Found, found}
 use Rattle.srom_pack.specs.Image.{block_of, block_at, srom_image}
-use Rattle.srom_pack.specs.Image.Laws.{first_block}
+use Rattle.srom_pack.proofs.ImageLaws.{first_block}
 use Rattle.srom_pack.proofs.Packing.{next_place, blocks-through, block_inside, Written, written_none, length-written, written-more, written_all}
 use Rattle.srom_pack.proofs.pack.write_image.Statement.{statement}
 use Rattle.srom_pack.proofs.pack.write_image.Tie as tie

@@ -2,7 +2,7 @@
 use mathlib.Core.Path.{sym, ◌∙◌}
 use Prim.Native.Nat.{◌-◌}
 use native.Mathlib.Omega.{arith}
-use Rattle.text.specs.Decimal.Laws.{width-start, leading-none, leading-more, leading_end}
+use Rattle.text.proofs.DecimalLaws.{width-start, leading-none, leading-more, leading_end}
 use Rattle.text.proofs.decimal.width.Goals as goal
 
 pub loop-count-init : goal.loop-count-init

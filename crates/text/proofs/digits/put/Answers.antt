@@ -6,9 +6,9 @@ use borrow.Author.Tests.{leb-true, leb-false}
 use borrow.Rule.Slice.PartMut.{mid_len}
 use lib.ListN.{length}
 use Rattle.words.specs.Store.{store}
-use Rattle.words.specs.Store.Laws.{store-part, store-fits, store-unfit}
+use Rattle.words.proofs.StoreLaws.{store-part, store-fits, store-unfit}
 use Rattle.text.specs.Digits.{digits}
-use Rattle.text.specs.Digits.Laws.{length_digits}
+use Rattle.text.proofs.DigitsLaws.{length_digits}
 use Rattle.text.proofs.digits.put.Goals as goal
 use Rattle.text.proofs.digits.put.Goals.{Then-fits}
 

@@ -5,7 +5,7 @@ use native.Mathlib.Nat.{mod-lt}
 use native.Mathlib.Omega.{arith}
 use lib.ListN.{length-set}
 use Rattle.text.specs.Digits.{digits}
-use Rattle.text.specs.Digits.Laws.{digits-start, digits-next}
+use Rattle.text.proofs.DigitsLaws.{digits-start, digits-next}
 use Rattle.text.proofs.digits.put_all.Goals as goal
 
 pub loop-i-init : goal.loop-i-init

@@ -4,10 +4,10 @@ use Prim.Native.Nat.{◌+◌, ◌≤◌}
 use native.Mathlib.Omega.{arith}
 use lib.ListN.{length}
 use Rattle.words.specs.Store.{store}
-use Rattle.words.specs.Store.Laws.{store-nil}
+use Rattle.words.proofs.StoreLaws.{store-nil}
 use Rattle.text.specs.Decimal.{width}
-use Rattle.text.specs.Decimal.Laws.{width-most}
-use Rattle.text.specs.Refusal.Laws.{length-line, line-fits, line-unfit, line-written}
+use Rattle.text.proofs.DecimalLaws.{width-most}
+use Rattle.text.proofs.RefusalLaws.{length-line, line-fits, line-unfit, line-written}
 use Rattle.text.proofs.refusal.put.Goals as goal
 
 pub overflow_add-size : goal.overflow_add-size

@@ -6,11 +6,11 @@ use native.Mathlib.Omega.{arith}
 use lib.ListN.{length, length-append}
 use borrow.Rule.Slice.PartMut.{mid_len}
 use Rattle.words.specs.Bytes.{little_endian}
-use Rattle.words.specs.Bytes.Laws.{length-little_endian}
+use Rattle.words.proofs.BytesLaws.{length-little_endian}
 use Rattle.word_blocks.specs.Repeat.{repeated, filling}
-use Rattle.word_blocks.specs.Repeat.Laws.{length-repeated, filling-split}
+use Rattle.word_blocks.proofs.RepeatLaws.{length-repeated, filling-split}
 use Rattle.words.specs.Store.{store}
-use Rattle.words.specs.Store.Laws.{store-part, store-adjoining, store-whole}
+use Rattle.words.proofs.StoreLaws.{store-part, store-adjoining, store-whole}
 use Rattle.word_blocks.proofs.fill.fill.Goals as goal
 
 -- the bytes behind the whole words, stored behind them

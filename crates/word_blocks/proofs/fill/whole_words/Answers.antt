@@ -5,11 +5,11 @@ use Prim.Native.Nat.{ℕ, ◌+◌, ◌-◌, ◌*◌, ◌/◌, ◌%◌, ◌≤◌
 use native.Mathlib.Omega.{arith}
 use lib.ListN.{length, set, length-set}
 use Rattle.words.specs.Bytes.{little_endian}
-use Rattle.words.specs.Bytes.Laws.{word_bytes, length-little_endian}
+use Rattle.words.proofs.BytesLaws.{word_bytes, length-little_endian}
 use Rattle.word_blocks.specs.Repeat.{repeated}
-use Rattle.word_blocks.specs.Repeat.Laws.{repeated-more, length-repeated}
+use Rattle.word_blocks.proofs.RepeatLaws.{repeated-more, length-repeated}
 use Rattle.words.specs.Store.{store}
-use Rattle.words.specs.Store.Laws.{four-sets, store-behind, store-nil}
+use Rattle.words.proofs.StoreLaws.{four-sets, store-behind, store-nil}
 use Rattle.word_blocks.proofs.fill.whole_words.Goals as goal
 
 -- the sets of one turn store one more word behind i words

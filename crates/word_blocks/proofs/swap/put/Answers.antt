@@ -6,10 +6,10 @@ use borrow.Author.Tests.{leb-true, leb-false}
 use lib.ListN.{length, take, drop}
 use lib.Seq.{take_all, length-take-le}
 use lib.ListN.{length-drop}
-use Rattle.word_blocks.specs.Swap.Laws.{swap-whole-words}
-use Rattle.word_blocks.specs.Swap.Laws.{length-swap}
+use Rattle.word_blocks.proofs.SwapLaws.{swap-whole-words}
+use Rattle.word_blocks.proofs.SwapLaws.{length-swap}
 use Rattle.word_blocks.specs.Swap.{swap_words}
-use Rattle.words.specs.Store.Laws.{store-part, store-fits, store-unfit, store-behind}
+use Rattle.words.proofs.StoreLaws.{store-part, store-fits, store-unfit, store-behind}
 use Rattle.words.specs.Store.{store}
 use Rattle.word_blocks.proofs.swap.put.Goals as goal
 use Rattle.word_blocks.proofs.swap.put.Goals.{Then-fits}

@@ -4,9 +4,9 @@ use mathlib.Core.Path.{◌≡◌, refl, sym, ◌∙◌}
 use native.Mathlib.Omega.{arith}
 use lib.ListN.{length, take, drop}
 use Rattle.word_blocks.specs.Swap.{swap_words}
-use Rattle.word_blocks.specs.Swap.Laws.{length-swap, swap-number, swap-more}
-use Rattle.words.specs.Store.Laws.{store-fits, store-nil, store-whole, store-part}
-use Rattle.words.specs.Choice.Laws.{all-elements, all_take, all_drop}
+use Rattle.word_blocks.proofs.SwapLaws.{length-swap, swap-number, swap-more}
+use Rattle.words.proofs.StoreLaws.{store-fits, store-nil, store-whole, store-part}
+use Rattle.words.proofs.ChoiceLaws.{all-elements, all_take, all_drop}
 use Rattle.words.specs.Bytes.{Bytes}
 use lib.Seq.{take_all}
 use borrow.Rule.Slice.PartMut.{mid_len, same_len_mid}

@@ -4,7 +4,7 @@ use mathlib.Core.Path.{refl, sym, ◌∙◌}
 use native.Mathlib.Omega.{arith}
 use lib.ListN.{get_or}
 use borrow.Author.Tests.{eq-eqb, ne_eqb, not-true, not-false}
-use Rattle.words.specs.Equal.Laws.{other_length, same_next, same_byte, same_end}
+use Rattle.words.proofs.EqualLaws.{other_length, same_next, same_byte, same_end}
 use Rattle.words.proofs.equal.equal.Goals as goal
 
 pub returns-then-size-b : goal.returns-then-size-b

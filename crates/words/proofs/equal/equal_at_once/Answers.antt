@@ -4,7 +4,7 @@ use native.Mathlib.Omega.{arith}
 use lib.ListN.{drop, length-drop}
 use lib.Seq.{get_or-drop}
 use Rattle.words.specs.Equal.{same}
-use Rattle.words.specs.Equal.Laws.{same_more}
+use Rattle.words.proofs.EqualLaws.{same_more}
 use Rattle.words.proofs.equal.equal_at_once.Goals as goal
 
 pub loop-k-init : goal.loop-k-init

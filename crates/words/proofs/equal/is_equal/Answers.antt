@@ -1,7 +1,7 @@
 -- `words::equal::is_equal` meets its contract.
 use mathlib.Core.Path.{sym}
 use borrow.Author.Tests.{eq-eqb, ne_eqb}
-use Rattle.words.specs.Choice.Laws.{and-true, and-false}
+use Rattle.words.proofs.ChoiceLaws.{and-true, and-false}
 use Rattle.words.proofs.equal.is_equal.Goals as goal
 
 pub returns-then-a-b : goal.returns-then-a-b

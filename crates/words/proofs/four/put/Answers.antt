@@ -5,9 +5,9 @@ use Prim.Native.Nat.{◌+◌, ◌≤◌}
 use native.Mathlib.Omega.{arith}
 use borrow.Author.Tests.{leb-true, leb-false}
 use lib.ListN.{length}
-use Rattle.words.specs.Store.Laws.{store-unfit}
+use Rattle.words.proofs.StoreLaws.{store-unfit}
 use Rattle.words.specs.Four.{four_bytes}
-use Rattle.words.specs.Four.Laws.{length-four_bytes, four-fits, four-put}
+use Rattle.words.proofs.FourLaws.{length-four_bytes, four-fits, four-put}
 use Rattle.words.proofs.four.put.Goals as goal
 use Rattle.words.proofs.four.put.Goals.{Then-fits}
 

@@ -4,7 +4,7 @@ use native.Mathlib.Omega.{arith}
 use Prim.Native.Nat.{◌+◌, ◌-◌}
 use lib.ListN.{length, drop, length-take}
 use borrow.Author.Tests.{leb-true, leb-false}
-use Rattle.words.specs.Four.Laws.{four-at-rest, four-past}
+use Rattle.words.proofs.FourLaws.{four-at-rest, four-past}
 use Rattle.words.proofs.four.read.Goals as goal
 
 pub whole-requires : goal.whole-requires

@@ -1,7 +1,7 @@
 -- `words::four::short` meets its contract: the bytes stand at the front of sixteen zeros.
 use mathlib.Core.Path.{◌∙◌}
 use native.Mathlib.Omega.{arith}
-use Rattle.words.specs.Four.Laws.{four-padded}
+use Rattle.words.proofs.FourLaws.{four-padded}
 use Rattle.words.proofs.four.short.Goals as goal
 
 pub returns : goal.returns

@@ -1,5 +1,5 @@
 -- `words::put::be_word` meets its contract: the Little Endian bytes of the turned word are the Big Endian ones.
-use Rattle.words.specs.Bytes.Laws.{little_endian-turned}
+use Rattle.words.proofs.BytesLaws.{little_endian-turned}
 use Rattle.words.proofs.put.be_word.Goals as goal
 
 pub returns : goal.returns

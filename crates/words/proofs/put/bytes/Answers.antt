@@ -5,7 +5,7 @@ use Prim.Native.Nat.{◌+◌, ◌≤◌}
 use native.Mathlib.Omega.{arith}
 use borrow.Author.Tests.{leb-true, leb-false}
 use lib.ListN.{length}
-use Rattle.words.specs.Store.Laws.{store-part, store-fits, store-unfit}
+use Rattle.words.proofs.StoreLaws.{store-part, store-fits, store-unfit}
 use Rattle.words.specs.Store.{store}
 use Rattle.words.proofs.put.bytes.Goals as goal
 use Rattle.words.proofs.put.bytes.Goals.{Then-fits}

@@ -6,8 +6,8 @@ use Prim.Native.Nat.{◌+◌, ◌≤◌}
 use native.Mathlib.Omega.{arith}
 use lib.ListN.{length, length-set}
 use Rattle.words.specs.Bytes.{little_endian}
-use Rattle.words.specs.Bytes.Laws.{length-little_endian, word_bytes}
-use Rattle.words.specs.Store.Laws.{four-sets, store-unfit}
+use Rattle.words.proofs.BytesLaws.{length-little_endian, word_bytes}
+use Rattle.words.proofs.StoreLaws.{four-sets, store-unfit}
 use Rattle.words.proofs.put.le_word.Goals as goal
 use Rattle.words.proofs.put.le_word.Goals.{Then-fits}
 

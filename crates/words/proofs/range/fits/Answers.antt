@@ -1,5 +1,5 @@
 -- `words::range::fits` meets its contract: the test by a difference is the test by the sum.
-use Rattle.words.specs.Range.Laws.{fits-near, fits-far}
+use Rattle.words.proofs.RangeLaws.{fits-near, fits-far}
 use mathlib.Core.Path.{sym}
 use native.Mathlib.Omega.{arith}
 use Rattle.words.proofs.range.fits.Goals as goal

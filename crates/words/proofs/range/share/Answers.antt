@@ -1,5 +1,5 @@
 -- `words::range::share` meets its contract: the tests by differences are the tests by sums.
-use Rattle.words.specs.Range.Laws.{meets-empty, meets-nothing, meets-upward, meets-downward}
+use Rattle.words.proofs.RangeLaws.{meets-empty, meets-nothing, meets-upward, meets-downward}
 use mathlib.Core.Path.{sym}
 use native.Mathlib.Omega.{arith}
 use Rattle.words.proofs.range.share.Goals as goal

@@ -1,5 +1,5 @@
 -- `words::read::be_half` meets its contract: the two bytes are the first two, reversed.
-use Rattle.words.specs.Bytes.Laws.{first_two}
+use Rattle.words.proofs.BytesLaws.{first_two}
 use Rattle.words.specs.Bytes.{big_endian_at, from_big_endian}
 use Rattle.words.proofs.read.be_half.Goals as goal
 

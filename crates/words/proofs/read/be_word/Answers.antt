@@ -1,5 +1,5 @@
 -- `words::read::be_word` meets its contract: the four bytes are the first four, reversed.
-use Rattle.words.specs.Bytes.Laws.{first-four}
+use Rattle.words.proofs.BytesLaws.{first-four}
 use Rattle.words.specs.Bytes.{big_endian_at, from_big_endian}
 use Rattle.words.proofs.read.be_word.Goals as goal
 

@@ -1,5 +1,5 @@
 -- `words::read::le_half` meets its contract: the two bytes are the first two.
-use Rattle.words.specs.Bytes.Laws.{first_two}
+use Rattle.words.proofs.BytesLaws.{first_two}
 use Rattle.words.specs.Bytes.{little_endian_at}
 use Rattle.words.proofs.read.le_half.Goals as goal
 

@@ -2,7 +2,7 @@
 use mathlib.Core.Path.{sym, ◌∙◌}
 use native.Mathlib.Omega.{arith}
 use borrow.Author.Tests.{leb-true}
-use Rattle.words.specs.Bytes.Laws.{little-at-rest, little-at-past}
+use Rattle.words.proofs.BytesLaws.{little-at-rest, little-at-past}
 use Rattle.words.proofs.read.le_word_at.Goals as goal
 
 pub whole_le_word-requires : goal.whole_le_word-requires

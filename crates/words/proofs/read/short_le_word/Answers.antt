@@ -1,5 +1,5 @@
 -- `words::read::short_le_word` meets its contract: the four bytes are the first four.
-use Rattle.words.specs.Bytes.Laws.{first-four}
+use Rattle.words.proofs.BytesLaws.{first-four}
 use Rattle.words.specs.Bytes.{little_endian_at}
 use Rattle.words.proofs.read.short_le_word.Goals as goal
 

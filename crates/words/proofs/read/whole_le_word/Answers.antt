@@ -1,6 +1,6 @@
 -- `words::read::whole_le_word` meets its contract: the four bytes at the place.
 use Rattle.words.specs.Bytes.{little_endian_at}
-use Rattle.words.specs.Bytes.Laws.{first-four-at}
+use Rattle.words.proofs.BytesLaws.{first-four-at}
 use Rattle.words.proofs.read.whole_le_word.Goals as goal
 
 pub returns : goal.returns

@@ -1,6 +1,6 @@
 -- `words::turned::half` meets its contract: the two bytes, highest first, are taken lowest first.
 use Rattle.words.specs.Bytes.{big_endian}
-use Rattle.words.specs.Bytes.Laws.{halfword-bytes}
+use Rattle.words.proofs.BytesLaws.{halfword-bytes}
 use Rattle.words.proofs.turned.half.Goals as goal
 
 pub returns : goal.returns

@@ -1,6 +1,6 @@
 -- `words::turned::word` meets its contract: the four bytes, highest first, are taken lowest first.
 use Rattle.words.specs.Bytes.{big_endian}
-use Rattle.words.specs.Bytes.Laws.{word_bytes}
+use Rattle.words.proofs.BytesLaws.{word_bytes}
 use Rattle.words.proofs.turned.word.Goals as goal
 
 pub returns : goal.returns

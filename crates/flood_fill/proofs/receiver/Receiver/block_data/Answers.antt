@@ -4,7 +4,7 @@ use lib.ListN.{length-map}
 use borrow.Author.Tests.{not-true, not-false}
 use native.Mathlib.Omega.{arith}
 use Rattle.flood_fill.proofs.Ends.{data-came}
-use Rattle.flood_fill.specs.Receive.Flags.{flag-there}
+use Rattle.flood_fill.proofs.ReceiveFlags.{flag-there}
 use Rattle.flood_fill.proofs.receiver.Receiver.block_data.Goals as goal
 
 pub returns-then-not-is_wanted : goal.returns-then-not-is_wanted

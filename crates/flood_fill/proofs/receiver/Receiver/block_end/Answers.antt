@@ -6,7 +6,7 @@ use native.Mathlib.Omega.{arith}
 use Rattle.flood_fill.specs.Refusals.{open_size}
 use Rattle.flood_fill.specs.Receive.{missing_in, lowest_in, completed, block_ended}
 use Rattle.flood_fill.proofs.Ends.{ended-whole}
-use Rattle.flood_fill.specs.Receive.Flags.{take_min}
+use Rattle.flood_fill.proofs.ReceiveFlags.{take_min}
 use Rattle.flood_fill.proofs.receiver.Receiver.block_end.Goals as goal
 
 pub slice_bounds-marks-end : goal.slice_bounds-marks-end

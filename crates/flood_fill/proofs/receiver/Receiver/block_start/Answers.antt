@@ -1,7 +1,7 @@
 -- `flood_fill::receiver::Receiver::block_start` meets its contract: a completed block is ignored, another one is opened; its ID and size fit, since it passed the tests.
 use mathlib.Core.Path.{sym, ◌∙◌}
 use native.Mathlib.Omega.{arith}
-use Rattle.flood_fill.specs.Refusals.Laws.{block-fits}
+use Rattle.flood_fill.proofs.RefusalsLaws.{block-fits}
 use Rattle.flood_fill.proofs.Ends.{block-started}
 use Rattle.flood_fill.proofs.receiver.Receiver.block_start.Goals as goal
 

@@ -7,9 +7,9 @@ use Rattle.flood_fill.specs.declared.message.Message.{Message}
 use Rattle.flood_fill.specs.declared.message.Message.TheVariants.{Start}
 use Rattle.flood_fill.specs.declared.header.Header.{Header}
 use Rattle.flood_fill.specs.declared.test.Tested.TheVariants.{Passed}
-use Rattle.flood_fill.specs.Limits.Laws.{Limits}
+use Rattle.flood_fill.proofs.LimitsLaws.{Limits}
 use Rattle.flood_fill.specs.Refusals.{tested, own_tests}
-use Rattle.flood_fill.specs.Refusals.Laws.{passed-own, start-limits}
+use Rattle.flood_fill.proofs.RefusalsLaws.{passed-own, start-limits}
 use Rattle.flood_fill.proofs.receiver.Receiver.perform.Goals as goal
 
 -- what a Start that passed grants

@@ -2,7 +2,7 @@
 use mathlib.Core.Path.{sym, ◌∙◌}
 use native.Mathlib.Omega.{arith}
 use borrow.Author.Tests.{le-leb, lt-leb, not-true, not-false}
-use Rattle.words.specs.Choice.Laws.{to_both}
+use Rattle.words.proofs.ChoiceLaws.{to_both}
 use Rattle.memory_map.specs.Map.{regions_of, well_formed, sound}
 use Rattle.memory_map.specs.Map.Ascending.{ascending-keep, ascending-inside}
 use Rattle.memory_map.proofs.map.Map.passes.Goals as goal

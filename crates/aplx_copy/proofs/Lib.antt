@@ -1,0 +1,2 @@
+-- Laws, theorems and computed examples.
+pub mod Examples

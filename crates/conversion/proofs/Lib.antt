@@ -1,0 +1,5 @@
+-- Laws, theorems and computed examples.
+pub mod ConversionLaws
+pub mod Examples
+pub mod RestoredLaws
+pub mod ShownLaws

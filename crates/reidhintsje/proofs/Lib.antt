@@ -1,0 +1,3 @@
+-- Laws, theorems and computed examples.
+pub mod CallsLaws
+pub mod Examples

@@ -1,0 +1,3 @@
+-- Laws, theorems and computed examples.
+pub mod RepeatLaws
+pub mod SwapLaws
