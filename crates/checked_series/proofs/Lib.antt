@@ -1,4 +1,4 @@
 -- Laws, theorems and computed examples.
 pub mod Ours
-pub mod Proof
+pub mod Proved
 pub mod Refuted

@@ -25,8 +25,8 @@ use Rattle.aplx_check.proofs.WrittenWhole.{carried-written}
 use Rattle.aplx_check.specs.Check.{accepted, check}
 use Rattle.aplx_check.proofs.CheckExact.{accepted-written, written-accepted}
 use Rattle.checked_series.specs.Claims.{loads_from, effect_of, HasEffect, Claims}
-use Rattle.checked_series.proofs.Proof.Theorem.{written-series}
-use Rattle.checked_series.proofs.Proof.Packed.{packed-behind}
+use Rattle.checked_series.proofs.Proved.Theorem.{written-series}
+use Rattle.checked_series.proofs.Proved.Packed.{packed-behind}
 
 pub ours : Claims software.ours check
 ours = record {

@@ -6,9 +6,9 @@ use Rattle.compare.specs.Reading.{read_compared}
 use Rattle.compare.specs.Compare.{compared}
 use Rattle.compare_claims.specs.Claims.{Claims, AsMeant}
 use Rattle.compare_claims.specs.Refusals.{Refusals, ReadExactly, Refused}
-use Rattle.compare_claims.proofs.Proof as proof
-use Rattle.compare_claims.proofs.Proof.Effect as effect
-use Rattle.compare_claims.proofs.Proof.Reading as reading
+use Rattle.compare_claims.proofs.Proved as proof
+use Rattle.compare_claims.proofs.Proved.Effect as effect
+use Rattle.compare_claims.proofs.Proved.Reading as reading
 
 pub ours : Claims compared
 ours = proof.claims

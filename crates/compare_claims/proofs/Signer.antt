@@ -20,11 +20,11 @@ use Rattle.compare.specs.Compare.{differences, most_stretches, limited, stretch_
 use Rattle.compare_claims.specs.Claims.{Comparison, Different, Exactly, Claims, named_by}
 use Rattle.compare_claims.specs.Refusals.{Refusals}
 use Rattle.compare_claims.proofs.Ours.{our-refusals}
-use Rattle.compare_claims.proofs.Proof.{compared-pieces}
+use Rattle.compare_claims.proofs.Proved.{compared-pieces}
 use Rattle.compare.proofs.ReadingBytes.{compared-bytes}
-use Rattle.compare_claims.proofs.Proof.Answers as answers
-use Rattle.compare_claims.proofs.Proof.Answers.{Reads, finds-reads, many-reads, answer, answer-exact, found-facts, none-same}
-use Rattle.compare_claims.proofs.Proof.Effect.{run-meant, same_memory}
+use Rattle.compare_claims.proofs.Proved.Answers as answers
+use Rattle.compare_claims.proofs.Proved.Answers.{Reads, finds-reads, many-reads, answer, answer-exact, found-facts, none-same}
+use Rattle.compare_claims.proofs.Proved.Effect.{run-meant, same_memory}
 
 -- ---- the claims leave no choice
 -- two lists that are both exact are equal

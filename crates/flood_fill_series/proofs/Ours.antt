@@ -6,10 +6,10 @@ use Rattle.flood_fill.specs.Refusals.{open_size}
 use Rattle.flood_fill.specs.Answer.{done}
 use Rattle.flood_fill.specs.Receive.{empty, word_bytes, receive}
 use Rattle.flood_fill_series.specs.Claims.{Call, after, Claims}
-use Rattle.flood_fill_series.proofs.Proof.Ends.{ends}
-use Rattle.flood_fill_series.proofs.Proof.Sound.{always-sound, done-stores}
-use Rattle.flood_fill_series.proofs.Proof.Blocks.{order-free, completes}
-use Rattle.flood_fill_series.proofs.Proof.Whole.{leaves-whole}
+use Rattle.flood_fill_series.proofs.Proved.Ends.{ends}
+use Rattle.flood_fill_series.proofs.Proved.Sound.{always-sound, done-stores}
+use Rattle.flood_fill_series.proofs.Proved.Blocks.{order-free, completes}
+use Rattle.flood_fill_series.proofs.Proved.Whole.{leaves-whole}
 
 pub ours : Claims receive
 ours = record { order-free = order-free; completes = completes; leaves-whole = leaves-whole }

@@ -3,13 +3,13 @@
 use Rattle.std.specs.Prelude.{List, [], ◌∷◌, ℕ}
 use Rattle.series.specs.Series.{Step, Left}
 use Rattle.series.specs.Software as software
-use Rattle.series.proofs.Proof.Theorem.{demand3}
+use Rattle.series.proofs.Proved.Theorem.{demand3}
 use Rattle.shared_series.specs.Claims.{Claims}
 use Rattle.shared_series.specs.Software as shared
 use Rattle.shared_series.proofs.Ours as SharedSeries
 use Rattle.media_series.specs.Claims.{BothStep, Result, Agree, AllAgree, EitherMedium}
 use Rattle.media_series.proofs.ClaimsLaws.{equal-changed}
-use Rattle.media_series.proofs.Proof.Theorem.{either-medium}
+use Rattle.media_series.proofs.Proved.Theorem.{either-medium}
 
 pub ours : EitherMedium software.ours
 ours = either-medium software.ours demand3

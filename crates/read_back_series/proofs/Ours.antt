@@ -7,7 +7,7 @@ use Rattle.series.specs.Software as software
 use Rattle.aplx_read.specs.ReadBack.{read_image, read_back}
 use Rattle.read_back_series.specs.Claims.{Claims}
 use Rattle.read_back_series.specs.Exact.{Exact}
-use Rattle.read_back_series.proofs.Proof as proof
+use Rattle.read_back_series.proofs.Proved as proof
 
 pub ours : Claims software.ours read_back
 ours = record { restores = proof.restores; returns = proof.returns }

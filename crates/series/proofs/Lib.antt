@@ -1,5 +1,5 @@
 -- Laws, theorems and computed examples.
 pub mod Examples
-pub mod Proof
+pub mod Proved
 pub mod Refuted
 pub mod SeriesLaws

@@ -11,8 +11,8 @@ use Rattle.aplx_share.specs.Contents.{contents}
 use Rattle.aplx_share.specs.SharedImage.{pack_shared}
 use Rattle.aplx_share.proofs.SharedImageLaws.{length-shared_image, read-packed}
 use Rattle.shared_series.specs.Claims.{shared_length, Claims}
-use Rattle.shared_series.proofs.Proof.Layout.{as-laid}
-use Rattle.shared_series.proofs.Proof.Theorem.{sized}
+use Rattle.shared_series.proofs.Proved.Layout.{as-laid}
+use Rattle.shared_series.proofs.Proved.Theorem.{sized}
 
 module _ (s : Software) (check : List ℕ → List ℕ → Checked) (read : List ℕ → ℕ → Packed) (claims : Claims s check read) (plan : List ℕ) (room : ℕ) where
   -- a plan that is refused is refused as before

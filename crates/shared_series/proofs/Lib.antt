@@ -1,5 +1,5 @@
 -- Laws, theorems and computed examples.
 pub mod Determined
 pub mod Ours
-pub mod Proof
+pub mod Proved
 pub mod Refuted

@@ -5,7 +5,7 @@ use Rattle.aplx_read.specs.ReadBack.{read_back}
 use Rattle.aplx_share.proofs.SharedImagePlain.{packed-plain}
 use Rattle.shared_series.specs.Claims.{Claims}
 use Rattle.shared_series.specs.Software.{sharing}
-use Rattle.shared_series.proofs.Proof.Theorem as proof
+use Rattle.shared_series.proofs.Proved.Theorem as proof
 
 pub ours : Claims sharing check read_back
 ours = record {

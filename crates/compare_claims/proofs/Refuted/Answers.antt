@@ -14,7 +14,7 @@ use Rattle.compare.specs.Reading.{run_of, EndsBy}
 use Rattle.compare.proofs.ReadingLaws.{stretch-all}
 use Rattle.compare.specs.Compare.{Compared, refuses, finds}
 use Rattle.compare_claims.specs.Claims.{Claims}
-use Rattle.compare_claims.proofs.Proof.Leaves.{none-stores}
+use Rattle.compare_claims.proofs.Proved.Leaves.{none-stores}
 use Rattle.compare_claims.proofs.Refuted.Comparisons.{comparing, Way, our_way, answer_below, comparing_by, refusing, finding_nothing, all_pieces, first_piece, where_both, both_store, exchanging, single, singles, each_address, with_last, last_bytes, with_zero, zero_shown, any_run}
 use Rattle.compare_claims.proofs.Refuted.Example.{old_pieces, new_pieces, old-ends, new-ends, says, Quiet, says-below, stores-none, last_none}
 

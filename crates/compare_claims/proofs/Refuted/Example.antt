@@ -17,7 +17,7 @@ use Rattle.compare.proofs.ReadingLaws.{ends-past}
 use Rattle.compare.specs.Compare.{limited, compared}
 use Rattle.compare.proofs.CompareLaws.{bound}
 use Rattle.compare_claims.specs.Claims.{Claims}
-use Rattle.compare_claims.proofs.Proof.{compared-pieces}
+use Rattle.compare_claims.proofs.Proved.{compared-pieces}
 use Rattle.compare_claims.proofs.Signer.{determined}
 use Rattle.compare_claims.proofs.Refuted.Comparisons.{Answer, answered, comparing, Way, our_way, answer_below, comparing_by}
 

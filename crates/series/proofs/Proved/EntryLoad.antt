@@ -26,8 +26,8 @@ use Rattle.series.specs.Series.{Left}
 use Rattle.series.specs.Medium.{aplx, ending_in, Misses, InMemory}
 use Rattle.series.specs.Software.{ours}
 use Rattle.series.specs.Demand.{loads, means}
-use Rattle.series.proofs.Proof.Entries.{index_of, walked_to, walk-stretch}
-use Rattle.series.proofs.Proof.Commands.{orders, orders-inside, orders-count, header-missed, commands-held, perform-stretch}
+use Rattle.series.proofs.Proved.Entries.{index_of, walked_to, walk-stretch}
+use Rattle.series.proofs.Proved.Commands.{orders, orders-inside, orders-count, header-missed, commands-held, perform-stretch}
 
 -- what a look at these commands with this end leaves, as compared
 abbrev leaves : Lookup → ℕ → List Command → Ending → List ℕ → Left

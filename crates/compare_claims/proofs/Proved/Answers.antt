@@ -17,10 +17,10 @@ use Rattle.compare.proofs.ReadingLaws.{readable}
 use Rattle.compare.specs.Compare.{differences, most_stretches, limited, stretch_size, neither, old_plan, new_plan, Compared, refuses, finds, compared_below, compared}
 use Rattle.compare.proofs.CompareLaws.{refuses-no-finds, limited-finds}
 use Rattle.compare_claims.specs.Claims.{Shown, Exactly}
-use Rattle.compare_claims.proofs.Proof.Leaves.{shown-last, differs-different}
+use Rattle.compare_claims.proofs.Proved.Leaves.{shown-last, differs-different}
 use Rattle.compare.proofs.ReadingBytes.{compared-bytes}
-use Rattle.compare_claims.proofs.Proof.Exact.{exact}
-use Rattle.compare_claims.proofs.Proof.{compared-pieces}
+use Rattle.compare_claims.proofs.Proved.Exact.{exact}
+use Rattle.compare_claims.proofs.Proved.{compared-pieces}
 
 -- ---- two plans that were read, with room
 pub record Reads (n : ℕ) (old new : List ℕ) : Type 0 where

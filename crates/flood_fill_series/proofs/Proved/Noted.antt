@@ -17,8 +17,8 @@ use Rattle.flood_fill.specs.declared.receiver.Receiver.{Receiver}
 use Rattle.flood_fill.specs.Refusals.{is_wanted}
 use Rattle.flood_fill.specs.Receive.{keeping, receive}
 use Rattle.flood_fill_series.specs.Claims.{NotRefused, Image, DataOf}
-use Rattle.flood_fill_series.proofs.Proof.Ends.{wanted, ends}
-use Rattle.flood_fill_series.proofs.Proof.Accepted.{data-leaves}
+use Rattle.flood_fill_series.proofs.Proved.Ends.{wanted, ends}
+use Rattle.flood_fill_series.proofs.Proved.Accepted.{data-leaves}
 
 unfoldable pub noted : Receiver → Message → Receiver
 noted r (Start last n) = r

@@ -16,7 +16,7 @@ use Rattle.series.specs.Series.{Change, changed}
 use Rattle.series.proofs.SeriesLaws.{length-changed, changed-outside}
 use Rattle.series.specs.Medium.{Medium, srom, aplx, Misses, Intact, Spares}
 use Rattle.series.specs.Demand.{means}
-use Rattle.series.proofs.Proof.Kept.{Beside, Beyond, all-stretch, meaning-keeps, beside_none}
+use Rattle.series.proofs.Proved.Kept.{Beside, Beyond, all-stretch, meaning-keeps, beside_none}
 
 -- a destination that meets no address of a readable range has none of its buffer bytes
 module _ {find : Lookup} {size : ℕ} (laws : Lawful find size) (a n p : ℕ) (readable : find Read a n ≡ at p) where

@@ -9,10 +9,10 @@ use Rattle.words.proofs.StoreLaws.{length-store, drop-store}
 use Rattle.flood_fill.specs.declared.message.Message.{Message}
 use Rattle.flood_fill.specs.Receive.{Result, receive}
 use Rattle.flood_fill_series.specs.Claims.{Held, leaves, held_after, Image, block_of, OfImage}
-use Rattle.flood_fill_series.proofs.Proof.Ends.{Ends, refuses, begins, skips, opens, keeps, drops, misses, finishes, ends}
-use Rattle.flood_fill_series.proofs.Proof.Sound.{sound-ends}
-use Rattle.flood_fill_series.proofs.Proof.Places.{Blocks, bytes_of, place_of, Stands, block-length, ends-in-image}
-use Rattle.flood_fill_series.proofs.Proof.Agrees.{Agrees, same-last, begun, keeps-word, inside, stored, fits, stands-still, done-stands}
+use Rattle.flood_fill_series.proofs.Proved.Ends.{Ends, refuses, begins, skips, opens, keeps, drops, misses, finishes, ends}
+use Rattle.flood_fill_series.proofs.Proved.Sound.{sound-ends}
+use Rattle.flood_fill_series.proofs.Proved.Places.{Blocks, bytes_of, place_of, Stands, block-length, ends-in-image}
+use Rattle.flood_fill_series.proofs.Proved.Agrees.{Agrees, same-last, begun, keeps-word, inside, stored, fits, stands-still, done-stands}
 
 module _ (i : Image) (last : ℕ) (f : Blocks i last) (m₀ : List ℕ) where
   -- ---- every message

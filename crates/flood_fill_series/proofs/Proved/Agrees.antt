@@ -13,10 +13,10 @@ use Rattle.flood_fill.specs.Refusals.{is_open}
 use Rattle.flood_fill.specs.Receive.{afresh, is_done, is_marked, word_bytes, keeping}
 use Rattle.flood_fill.proofs.ReceiveLaws.{length-word_bytes}
 use Rattle.flood_fill_series.specs.Claims.{Held, Image, block_of}
-use Rattle.flood_fill_series.proofs.Proof.Ends.{the_open, size_now, missing_now, wanted, stored_at}
-use Rattle.flood_fill_series.proofs.Proof.Sound.{Sound, afresh-sound, words-stored}
-use Rattle.flood_fill_series.proofs.Proof.Blocks.{marked_all}
-use Rattle.flood_fill_series.proofs.Proof.Places.{Blocks, bytes_of, place_of, Stands, block-length, blocks-apart}
+use Rattle.flood_fill_series.proofs.Proved.Ends.{the_open, size_now, missing_now, wanted, stored_at}
+use Rattle.flood_fill_series.proofs.Proved.Sound.{Sound, afresh-sound, words-stored}
+use Rattle.flood_fill_series.proofs.Proved.Blocks.{marked_all}
+use Rattle.flood_fill_series.proofs.Proved.Places.{Blocks, bytes_of, place_of, Stands, block-length, blocks-apart}
 
 -- the marked words of the open block are the image's
 pub record OpenAgrees (i : Image) (r : Receiver) (b n : ℕ) : Type 0 where

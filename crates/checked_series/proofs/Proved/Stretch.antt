@@ -14,10 +14,10 @@ use Rattle.plan.specs.Packable.{Packable}
 use Rattle.plan.specs.Meaning.{allowed, permit, effect, effects, stretch, Finish, ends, runs, denies, finish, Permitted}
 use Rattle.plan.proofs.MeaningLaws.{Stores, effects-append, stretch-past, finish-past}
 use Rattle.series.specs.Medium.{Misses}
-use Rattle.series.proofs.Proof.Kept.{effects-keep, beside_none}
+use Rattle.series.proofs.Proved.Kept.{effects-keep, beside_none}
 use Rattle.aplx_check.specs.Parts.{Split, parts_of, SplitAll, parts, parts_before}
-use Rattle.checked_series.proofs.Proof.Parts.{piece-packable, piece-misses}
-use Rattle.checked_series.proofs.Proof.Effect.{piece-alike}
+use Rattle.checked_series.proofs.Proved.Parts.{piece-packable, piece-misses}
+use Rattle.checked_series.proofs.Proved.Effect.{piece-alike}
 
 -- ---- each part
 pub parts-packable : (ps : List Piece) (cs : List (List ℕ)) → All (Packable 1) ps → SplitAll ps cs → All (Packable 32) (parts ps cs)

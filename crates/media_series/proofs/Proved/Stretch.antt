@@ -14,7 +14,7 @@ use Rattle.plan.specs.Plan.{Piece, put, fill, run}
 use Rattle.plan.specs.Meaning.{store_at, effect, effects, stretch, Finish, ends, runs, denies, finish, meant, meaning}
 use Rattle.series.specs.Medium.{srom, aplx, ending_in}
 use Rattle.series.specs.Demand.{means}
-use Rattle.series.proofs.Proof.Kept.{effects-keep, beside_none}
+use Rattle.series.proofs.Proved.Kept.{effects-keep, beside_none}
 use Rattle.media_series.specs.Claims.{EqualOutside, result_of, meant_result, result_at, Agree}
 use Rattle.media_series.proofs.ClaimsLaws.{equal-store}
 

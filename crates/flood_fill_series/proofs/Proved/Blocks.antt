@@ -13,11 +13,11 @@ use Rattle.flood_fill.specs.Refusals.{open_size}
 use Rattle.flood_fill.specs.Answer.{done}
 use Rattle.flood_fill.specs.Receive.{Result, empty, is_done, missing_in, opening, receive}
 use Rattle.flood_fill_series.specs.Claims.{Call, after, messages_of, Image, block_of, DataOf, came, EveryWord, OnlyData, OrderFree, Completes}
-use Rattle.flood_fill_series.proofs.Proof.Ends.{size_now, missing_now, Ends, refuses, misses, finishes, ends}
-use Rattle.flood_fill_series.proofs.Proof.Accepted.{accepted-opens, undone-opens, whole-done}
-use Rattle.flood_fill_series.proofs.Proof.Noted.{set-marked}
-use Rattle.flood_fill_series.proofs.Proof.Filled.{calls-noted, Filled, noted-all, filled-same}
-use Rattle.flood_fill_series.proofs.Proof.Sound.{Sound, sound-ends, sound-after, always-sound, done-stores}
+use Rattle.flood_fill_series.proofs.Proved.Ends.{size_now, missing_now, Ends, refuses, misses, finishes, ends}
+use Rattle.flood_fill_series.proofs.Proved.Accepted.{accepted-opens, undone-opens, whole-done}
+use Rattle.flood_fill_series.proofs.Proved.Noted.{set-marked}
+use Rattle.flood_fill_series.proofs.Proved.Filled.{calls-noted, Filled, noted-all, filled-same}
+use Rattle.flood_fill_series.proofs.Proved.Sound.{Sound, sound-ends, sound-after, always-sound, done-stores}
 
 -- ---- marks
 -- none is missing where all are set, and all are set where none is missing

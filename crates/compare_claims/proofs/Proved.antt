@@ -13,7 +13,7 @@ use Rattle.compare.specs.Compare.{differences, most_stretches, limited, stretch_
 use Rattle.compare_claims.specs.Claims.{Claims}
 use Rattle.compare_claims.specs.Refusals.{Refusals}
 use Rattle.compare.proofs.ReadingBytes.{compared-bytes}
-use Rattle.compare_claims.proofs.Proof.Exact.{exact}
+use Rattle.compare_claims.proofs.Proved.Exact.{exact}
 
 -- what is compared, of plans that are read, with room
 pub compared-pieces : (n : ℕ) (old new : List ℕ) → stretch_size * most_stretches ≤ n → {old_pieces new_pieces : List Piece}

@@ -18,12 +18,12 @@ use Rattle.series.proofs.SeriesLaws.{series-same}
 use Rattle.series.specs.Medium.{aplx, ending_in, Spares}
 use Rattle.series.specs.Software.{ours}
 use Rattle.series.specs.Demand.{means, Granted}
-use Rattle.series.proofs.Proof.Preserved.{Before, after-load, after-changes}
-use Rattle.series.proofs.Proof.Theorem.{one-load}
+use Rattle.series.proofs.Proved.Preserved.{Before, after-load, after-changes}
+use Rattle.series.proofs.Proved.Theorem.{one-load}
 use Rattle.aplx_check.specs.Parts.{parts}
 use Rattle.aplx_check.specs.Written.{WrittenFor}
 use Rattle.checked_series.specs.Claims.{entry_of, loads_from, effect_of, means_from}
-use Rattle.checked_series.proofs.Proof.Stretch.{parts-packable, parts-miss, split-drop, drop-parts, before-add, before-most, moved_by, RunIsOne, same-stretch}
+use Rattle.checked_series.proofs.Proved.Stretch.{parts-packable, parts-miss, split-drop, drop-parts, before-add, before-most, moved_by, RunIsOne, same-stretch}
 
 module _ {plan image : List ℕ} (bytes : Bytes plan) (w : WrittenFor plan image) (a : ℕ) (map : Map) where
   abbrev ps : List Piece

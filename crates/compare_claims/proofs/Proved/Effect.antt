@@ -20,7 +20,7 @@ use Rattle.compare.specs.LastByte.Laws.{not_covered}
 use Rattle.compare.proofs.LastByteMeaning.{effects-byte}
 use Rattle.compare.specs.Reading.{run_of}
 use Rattle.compare_claims.specs.Claims.{named_by, AsMeant}
-use Rattle.compare_claims.proofs.Proof.Leaves.{leaves_after, same_after}
+use Rattle.compare_claims.proofs.Proved.Leaves.{leaves_after, same_after}
 use Rattle.compare.proofs.ReadingBytes.{AreBytes}
 
 -- every piece of a stretch that stopped is permitted, and the memory is what they leave in order

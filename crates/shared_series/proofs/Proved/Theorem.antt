@@ -11,7 +11,7 @@ use Rattle.plan.specs.Packed.{packs, packed_as}
 use Rattle.aplx_image.specs.Carries.{Carries}
 use Rattle.series.specs.Medium.{srom, aplx}
 use Rattle.series.specs.Demand.{Demand3}
-use Rattle.series.proofs.Proof.Theorem.{carried-holds, demand3}
+use Rattle.series.proofs.Proved.Theorem.{carried-holds, demand3}
 use Rattle.aplx_pack.specs.Image.{aplx_image, pack_aplx}
 use Rattle.aplx_check.specs.Written.{AllBehind}
 use Rattle.aplx_check.proofs.WrittenWhole.{carried-written}
@@ -28,8 +28,8 @@ use Rattle.aplx_share.proofs.SharedImageCarried.{shared-carries, shared-short}
 use Rattle.shared_series.specs.Claims.{shared_length, Sized, SamePieces}
 use Rattle.shared_series.specs.Layout.{Layout}
 use Rattle.shared_series.specs.Software.{sharing}
-use Rattle.shared_series.proofs.Proof.Places.{shared-behind}
-use Rattle.shared_series.proofs.Proof.Layout as layout
+use Rattle.shared_series.proofs.Proved.Places.{shared-behind}
+use Rattle.shared_series.proofs.Proved.Layout as layout
 
 -- ---- of a plan that is read
 pub sized : (plan : List ℕ) (ps : List Piece) → read_plan 32 plan ≡ pieces ps → Sized pack_shared plan ps

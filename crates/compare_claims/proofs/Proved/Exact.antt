@@ -13,7 +13,7 @@ use Rattle.compare.proofs.ReadingBytes.{AreBytes}
 use Rattle.compare.specs.Compare.{differences}
 use Rattle.compare.proofs.CompareLaws.{same-past}
 use Rattle.compare_claims.specs.Claims.{Shown, Exactly}
-use Rattle.compare_claims.proofs.Proof.Leaves.{shown, differs-different, different-differs}
+use Rattle.compare_claims.proofs.Proved.Leaves.{shown, differs-different, different-differs}
 
 -- ---- the stretches below a bound, of pieces that end by it
 module _ (bound : ℕ) (old new : List Piece) (ends-old : All (EndsBy bound) old) (ends-new : All (EndsBy bound) new)

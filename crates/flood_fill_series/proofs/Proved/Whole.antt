@@ -16,14 +16,14 @@ use Rattle.flood_fill.specs.Limits.{right_size}
 use Rattle.flood_fill.specs.Refusals.{is_open}
 use Rattle.flood_fill.specs.Receive.{Result, afresh, empty, is_done, word_bytes, opening, receive}
 use Rattle.flood_fill_series.specs.Claims.{after, NotRefused, Held, leaves, held_after, Image, block_of, OfImage, DataOf, EveryWord, Visited, StandsWhole, LeavesWhole}
-use Rattle.flood_fill_series.proofs.Proof.Ends.{Ends, refuses, begins, ends}
-use Rattle.flood_fill_series.proofs.Proof.Accepted.{undone-opens, whole-done, block-start-passes, data-passes, block-end-passes}
-use Rattle.flood_fill_series.proofs.Proof.Noted.{message-noted}
-use Rattle.flood_fill_series.proofs.Proof.Filled.{noted_all, Filled, noted-all}
-use Rattle.flood_fill_series.proofs.Proof.Blocks.{filled-open, filled-whole, done-done}
-use Rattle.flood_fill_series.proofs.Proof.Places.{Blocks, Stands, right-size, whole-image}
-use Rattle.flood_fill_series.proofs.Proof.Agrees.{Agrees, begun}
-use Rattle.flood_fill_series.proofs.Proof.Steps.{agrees-leaves, agrees_after, stands_after}
+use Rattle.flood_fill_series.proofs.Proved.Ends.{Ends, refuses, begins, ends}
+use Rattle.flood_fill_series.proofs.Proved.Accepted.{undone-opens, whole-done, block-start-passes, data-passes, block-end-passes}
+use Rattle.flood_fill_series.proofs.Proved.Noted.{message-noted}
+use Rattle.flood_fill_series.proofs.Proved.Filled.{noted_all, Filled, noted-all}
+use Rattle.flood_fill_series.proofs.Proved.Blocks.{filled-open, filled-whole, done-done}
+use Rattle.flood_fill_series.proofs.Proved.Places.{Blocks, Stands, right-size, whole-image}
+use Rattle.flood_fill_series.proofs.Proved.Agrees.{Agrees, begun}
+use Rattle.flood_fill_series.proofs.Proved.Steps.{agrees-leaves, agrees_after, stands_after}
 
 -- ---- lists of messages
 held-append : (h : Held) (xs ys : List Message) → held_after receive h (xs ++ ys) ≡ held_after receive (held_after receive h xs) ys

@@ -13,7 +13,7 @@ use Rattle.aplx_pack.specs.Image.{aplx_image, pack_aplx}
 use Rattle.aplx_pack.proofs.ImageLaws.{packed-facts, read-packed}
 use Rattle.aplx_pack.proofs.ImageCarried.{packed-carries, image-short}
 use Rattle.series.specs.Software as software
-use Rattle.series.proofs.Proof.Theorem.{carried-holds}
+use Rattle.series.proofs.Proved.Theorem.{carried-holds}
 use Rattle.aplx_read.specs.PlanBytes.{plan_bytes}
 use Rattle.aplx_read.proofs.PlanBytesLaws.{plan-bytes}
 use Rattle.aplx_read.proofs.PlanBytesRead.{plan-read}

@@ -14,7 +14,7 @@ use Rattle.flood_fill.specs.Refusals.{is_open, test_block_start, test_block_end,
 use Rattle.flood_fill.specs.Answer.{accepted, ignored, missing, done}
 use Rattle.flood_fill.specs.Receive.{Result, is_done, lowest_in, result, opening, keeping, block_started, data_came, completed, block_ended, receive}
 use Rattle.flood_fill_series.specs.Claims.{NotRefused}
-use Rattle.flood_fill_series.proofs.Proof.Ends.{wanted, missing_now, size_now, Ends, refuses, skips, opens, keeps, drops, misses, finishes}
+use Rattle.flood_fill_series.proofs.Proved.Ends.{wanted, missing_now, size_now, Ends, refuses, skips, opens, keeps, drops, misses, finishes}
 
 module _ (r : Receiver) (image : List ℕ) where
   -- ---- what it leaves

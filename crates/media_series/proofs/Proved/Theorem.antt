@@ -12,10 +12,10 @@ use Rattle.series.specs.Series.{changed, Step, Left, series}
 use Rattle.series.specs.Medium.{Medium, srom, aplx, Spares}
 use Rattle.series.specs.Software.{Software}
 use Rattle.series.specs.Demand.{loads, means, Granted, Demand3}
-use Rattle.series.proofs.Proof.Preserved.{Before, after-load, after-changes}
-use Rattle.series.proofs.Proof.Corollaries.{one-load}
+use Rattle.series.proofs.Proved.Preserved.{Before, after-load, after-changes}
+use Rattle.series.proofs.Proved.Corollaries.{one-load}
 use Rattle.media_series.specs.Claims.{EqualOutside, BothStep, aplx_steps, srom_steps, result_at, Agree, AllAgree, EitherMedium}
-use Rattle.media_series.proofs.Proof.Stretch.{meanings-agree}
+use Rattle.media_series.proofs.Proved.Stretch.{meanings-agree}
 
 -- demand 3's premises for the SROM series follow from those for the APLX series
 pub srom-granted :

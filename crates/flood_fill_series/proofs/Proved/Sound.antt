@@ -13,7 +13,7 @@ use Rattle.flood_fill.specs.Answer.{done}
 use Rattle.flood_fill.specs.Receive.{Result, afresh, empty, word_bytes, receive}
 use Rattle.flood_fill.proofs.ReceiveLaws.{length-word_bytes}
 use Rattle.flood_fill_series.specs.Claims.{Call, after}
-use Rattle.flood_fill_series.proofs.Proof.Ends.{the_open, size_now, stored_at, Ends, refuses, begins, skips, opens, keeps, drops, misses, finishes, ends}
+use Rattle.flood_fill_series.proofs.Proved.Ends.{the_open, size_now, stored_at, Ends, refuses, begins, skips, opens, keeps, drops, misses, finishes, ends}
 
 pub record Sound (r : Receiver) : Type 0 where
   pub words-length : length r.words ≡ 256

@@ -22,8 +22,8 @@ use Rattle.series.specs.Series.{Step, changed, Left, series}
 use Rattle.series.specs.Medium.{Medium, start_of, mark_of, ending_in, Intact, Spares}
 use Rattle.series.specs.Software.{Software, leaves}
 use Rattle.series.specs.Demand.{loads, means, Granted}
-use Rattle.series.proofs.Proof.Kept.{Beside, meaning-keeps}
-use Rattle.series.proofs.Proof.Preserved.{Before, after-load, after-changes}
+use Rattle.series.proofs.Proved.Kept.{Beside, meaning-keeps}
+use Rattle.series.proofs.Proved.Preserved.{Before, after-load, after-changes}
 use Rattle.series.specs.Resume.{further, resumed}
 
 -- ---- the parts of a plan: pieces that store, then the end or a run

@@ -9,7 +9,7 @@ use Rattle.flood_fill.specs.declared.header.Header.{Header}
 use Rattle.flood_fill.specs.declared.receiver.Receiver.{Receiver}
 use Rattle.flood_fill.specs.Receive.{receive}
 use Rattle.flood_fill_series.specs.Claims.{Call, after, answers, messages_of, NotRefused, Image, block_of, DataOf, is_word, came}
-use Rattle.flood_fill_series.proofs.Proof.Noted.{noted, message-noted, either-noted, or-false, no-else, note-mark, note-word}
+use Rattle.flood_fill_series.proofs.Proved.Noted.{noted, message-noted, either-noted, or-false, no-else, note-mark, note-word}
 
 unfoldable pub noted_all : Receiver → List Message → Receiver
 noted_all r [] = r

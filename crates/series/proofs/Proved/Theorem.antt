@@ -23,9 +23,9 @@ use Rattle.series.proofs.SeriesLaws.{series-same}
 use Rattle.series.specs.Medium.{Medium, srom, aplx, start_of, Spares}
 use Rattle.series.specs.Software.{ours}
 use Rattle.series.specs.Demand.{loads, means, Granted, Holds, Demand3}
-use Rattle.series.proofs.Proof.Preserved.{Before, after-load, after-changes}
-use Rattle.series.proofs.Proof.BlockLoad.{SromLoad}
-use Rattle.series.proofs.Proof.EntryLoad.{AplxLoad}
+use Rattle.series.proofs.Proved.Preserved.{Before, after-load, after-changes}
+use Rattle.series.proofs.Proved.BlockLoad.{SromLoad}
+use Rattle.series.proofs.Proved.EntryLoad.{AplxLoad}
 
 -- the lengths that a medium can express are multiples of this
 abbrev pub unit_of : Medium → ℕ

@@ -24,9 +24,9 @@ use Rattle.aplx_look.specs.Walk.{commands}
 use Rattle.aplx_look.specs.Look.{meets_header, header_test}
 use Rattle.aplx.specs.Load.{perform, perform_all}
 use Rattle.series.specs.Medium.{Misses}
-use Rattle.series.proofs.Proof.Kept.{effects-keep}
-use Rattle.series.proofs.Proof.Preserved.{misses-beside}
-use Rattle.series.proofs.Proof.Entries.{ordered, index_of, part-found, part_held, command-held}
+use Rattle.series.proofs.Proved.Kept.{effects-keep}
+use Rattle.series.proofs.Proved.Preserved.{misses-beside}
+use Rattle.series.proofs.Proved.Entries.{ordered, index_of, part-found, part_held, command-held}
 
 -- memory of n bytes that holds the image at place p
 abbrev Held : List ℕ → ℕ → ℕ → List ℕ → Type 0

@@ -17,7 +17,7 @@ use Rattle.plan.specs.Meaning.{allowed, permit, effect, effects, stored_by, Perm
 use Rattle.plan.proofs.MeaningLaws.{Stores, permitted-at}
 use Rattle.aplx_check.specs.Parts.{size_of, first_part, rest_of, Split, split_at, parts_of}
 use Rattle.aplx_check.proofs.PartsLaws.{rest-none, rest-rest, parts-stored}
-use Rattle.checked_series.proofs.Proof.Parts.{part_at, PartAt, rest_part, is-part, all-parts}
+use Rattle.checked_series.proofs.Proved.Parts.{part_at, PartAt, rest_part, is-part, all-parts}
 
 -- ---- the bytes that a piece stores
 length-bytes : (p : Piece) → length (stored_by p) ≡ size_of p
