@@ -25,13 +25,7 @@ fn written(answer: Compared) -> u64
 }
 
 // Compares two plans. The stretches of addresses at which they differ stand at the output's front.
-#[unsafe(no_mangle)]
-pub extern "C" fn reidhintsje_compare(
-    old: &[u8],
-    new: &[u8],
-    output: &mut [u8],
-    outcome: &mut [u64; 8],
-) -> u32
+pub fn reidhintsje_compare(old: &[u8], new: &[u8], output: &mut [u8], outcome: &mut [u64; 8]) -> u32
     ensures value { result ≡ first outcome.new }
     ensures outcome_after { outcome.new ≡ (compare_call old.now new.now output.old).numbers }
     ensures output_after { output.new ≡ (compare_call old.now new.now output.old).output }

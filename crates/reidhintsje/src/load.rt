@@ -7,8 +7,7 @@ use map_table::table::map_of;
 use outcome_numbers::numbers::{load_parts, put};
 
 // Loads a serial ROM from an offset on.
-#[unsafe(no_mangle)]
-pub extern "C" fn reidhintsje_srom_load(
+pub fn reidhintsje_srom_load(
     map: &[u8],
     memory: &mut [u8],
     rom: &[u8],
@@ -25,8 +24,7 @@ pub extern "C" fn reidhintsje_srom_load(
 }
 
 // Loads the APLX image whose header stands at an address.
-#[unsafe(no_mangle)]
-pub extern "C" fn reidhintsje_aplx_load(
+pub fn reidhintsje_aplx_load(
     map: &[u8],
     memory: &mut [u8],
     header: u32,

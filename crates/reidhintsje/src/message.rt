@@ -8,8 +8,7 @@ use outcome_numbers::numbers::{message_parts, put};
 use receiver_bytes::layout::RECEIVER;
 
 // Start: the number of blocks less 1, and the full size of a block.
-#[unsafe(no_mangle)]
-pub extern "C" fn reidhintsje_flood_fill_start(
+pub fn reidhintsje_flood_fill_start(
     receiver: &mut [u8; RECEIVER],
     image: &[u8],
     last_block: u32,
@@ -25,8 +24,7 @@ pub extern "C" fn reidhintsje_flood_fill_start(
 }
 
 // Block Start: a block, and its own size.
-#[unsafe(no_mangle)]
-pub extern "C" fn reidhintsje_flood_fill_block_start(
+pub fn reidhintsje_flood_fill_block_start(
     receiver: &mut [u8; RECEIVER],
     image: &[u8],
     block: u32,
@@ -42,8 +40,7 @@ pub extern "C" fn reidhintsje_flood_fill_block_start(
 }
 
 // Block Data: a word of a block.
-#[unsafe(no_mangle)]
-pub extern "C" fn reidhintsje_flood_fill_block_data(
+pub fn reidhintsje_flood_fill_block_data(
     receiver: &mut [u8; RECEIVER],
     image: &[u8],
     block: u32,
@@ -60,8 +57,7 @@ pub extern "C" fn reidhintsje_flood_fill_block_data(
 }
 
 // Block End: the words of a complete block go into the image.
-#[unsafe(no_mangle)]
-pub extern "C" fn reidhintsje_flood_fill_block_end(
+pub fn reidhintsje_flood_fill_block_end(
     receiver: &mut [u8; RECEIVER],
     image: &mut [u8],
     block: u32,

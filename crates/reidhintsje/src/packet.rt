@@ -21,8 +21,7 @@ fn identity_of(numbers: &[u32; 5]) -> Identity
 }
 
 // Answers an SCP packet.
-#[unsafe(no_mangle)]
-pub extern "C" fn reidhintsje_scp_answer(
+pub fn reidhintsje_scp_answer(
     map: &[u8],
     memory: &mut [u8],
     identity: &[u32; 5],

@@ -35,8 +35,7 @@ fn target_of(target: u32) -> Target
 }
 
 // Reads a plan.
-#[unsafe(no_mangle)]
-pub extern "C" fn reidhintsje_plan_read(plan: &[u8], target: u32, outcome: &mut [u64; 8]) -> u32
+pub fn reidhintsje_plan_read(plan: &[u8], target: u32, outcome: &mut [u64; 8]) -> u32
     ensures value { result ≡ first outcome.new }
     ensures outcome_after { outcome.new ≡ read_call plan.now target }
 {
@@ -82,12 +81,7 @@ fn aplx_length(plan: &[u8]) -> u64
 }
 
 // Packs a plan as a serial ROM image at the output's front. A plan whose image does not fit is read once more for the image's length.
-#[unsafe(no_mangle)]
-pub extern "C" fn reidhintsje_pack_srom(
-    plan: &[u8],
-    output: &mut [u8],
-    outcome: &mut [u64; 8],
-) -> u32
+pub fn reidhintsje_pack_srom(plan: &[u8], output: &mut [u8], outcome: &mut [u64; 8]) -> u32
     ensures value { result ≡ first outcome.new }
     ensures outcome_after { outcome.new ≡ (srom_pack_call plan.now output.old).numbers }
     ensures output_after { output.new ≡ (srom_pack_call plan.now output.old).output }
@@ -101,12 +95,7 @@ pub extern "C" fn reidhintsje_pack_srom(
 }
 
 // Packs a plan as an APLX image at the output's front. A plan whose image does not fit is read once more for the image's length.
-#[unsafe(no_mangle)]
-pub extern "C" fn reidhintsje_pack_aplx(
-    plan: &[u8],
-    output: &mut [u8],
-    outcome: &mut [u64; 8],
-) -> u32
+pub fn reidhintsje_pack_aplx(plan: &[u8], output: &mut [u8], outcome: &mut [u64; 8]) -> u32
     ensures value { result ≡ first outcome.new }
     ensures outcome_after { outcome.new ≡ (aplx_pack_call plan.now output.old).numbers }
     ensures output_after { output.new ≡ (aplx_pack_call plan.now output.old).output }
@@ -121,12 +110,7 @@ pub extern "C" fn reidhintsje_pack_aplx(
 
 // Packs a plan as an APLX image that keeps one copy of equal put data, at the output's front. A plan whose image does not fit is read once
 // more for the image's length.
-#[unsafe(no_mangle)]
-pub extern "C" fn reidhintsje_pack_aplx_shared(
-    plan: &[u8],
-    output: &mut [u8],
-    outcome: &mut [u64; 8],
-) -> u32
+pub fn reidhintsje_pack_aplx_shared(plan: &[u8], output: &mut [u8], outcome: &mut [u64; 8]) -> u32
     ensures value { result ≡ first outcome.new }
     ensures outcome_after { outcome.new ≡ (aplx_shared_pack_call plan.now output.old).numbers }
     ensures output_after { output.new ≡ (aplx_shared_pack_call plan.now output.old).output }
@@ -154,12 +138,7 @@ fn plan_length(image: &[u8]) -> u64
 }
 
 // Reads an APLX image back as a plan at the output's front. An image whose plan does not fit is read once more for the plan's length.
-#[unsafe(no_mangle)]
-pub extern "C" fn reidhintsje_aplx_read(
-    image: &[u8],
-    output: &mut [u8],
-    outcome: &mut [u64; 8],
-) -> u32
+pub fn reidhintsje_aplx_read(image: &[u8], output: &mut [u8], outcome: &mut [u64; 8]) -> u32
     ensures value { result ≡ first outcome.new }
     ensures outcome_after { outcome.new ≡ (aplx_read_call image.now output.old).numbers }
     ensures output_after { output.new ≡ (aplx_read_call image.now output.old).output }
@@ -173,8 +152,7 @@ pub extern "C" fn reidhintsje_aplx_read(
 }
 
 // Checks an APLX image against a plan.
-#[unsafe(no_mangle)]
-pub extern "C" fn reidhintsje_aplx_check(plan: &[u8], image: &[u8], outcome: &mut [u64; 8]) -> u32
+pub fn reidhintsje_aplx_check(plan: &[u8], image: &[u8], outcome: &mut [u64; 8]) -> u32
     ensures value { result ≡ first outcome.new }
     ensures outcome_after { outcome.new ≡ aplx_check_call plan.now image.now }
 {
