@@ -1,4 +1,4 @@
-/* Reidhintsje for C, and for what calls C: link with target/staticlib/libreidhintsje.a, which `rt staticlib reidhintsje` makes.
+/* Reidhintsje for C, and for what calls C: link with target/staticlib/libreidhintsje.a, which examples/library makes.
  *
  * The archive is for x86-64 Linux, which is what the toolchain's compiler writes today: for the bench computer that packs and compares
  * plans, checks images, loads and answers packets for an instrument, and not for the board's own cores.
