@@ -1,6 +1,6 @@
 // The text for two plans.
 ghost use Rattle.std.specs.Prelude.{◌≡◌, ◌*◌, length};
-ghost use Rattle.io.specs.Counts.{IsPrefixLen};
+ghost use Rattle.file_bytes.specs.Counts.{IsPrefixLen};
 ghost use Rattle.words.specs.Store.{store};
 ghost use Rattle.plan.specs.Plan.{refused};
 ghost use Rattle.compare.specs.Reading.{addresses, read_compared};

@@ -1,57 +1,63 @@
 // The program: it reads and writes, and nothing else. Where writing fails it says so on standard error.
-ghost use Rattle.io.specs.Counts.{IsPrefixLen};
+ghost use Rattle.file_bytes.specs.Counts.{IsPrefixLen};
 ghost use Rattle.comparison.specs.Code.{FromFiles};
 
 use crate::comparison::{LONGEST_PLAN, LONGEST_TEXT, Printed};
 use compare::compare::Which;
-use libc::{STDERR_FILENO, STDOUT_FILENO};
+use std::fs;
+use std::rt::Files;
 
 // The bytes of a file, as many as fit, at the buffer's front; none where it can't be opened. Answers their number.
-fn read_file(name: &[u8], plan: &mut [u8]) -> usize
+fn read_file<R: Files>(rt: &R, name: &[u8], plan: &mut [u8]) -> usize
     ensures { IsPrefixLen result plan.new }
 {
-    let file = os::open_read(name);
-    if file < 0 {
+    let Ok(path) = str::from_utf8(name) else {
         return 0;
+    };
+    match fs::open(rt, path) {
+        Ok(mut file) => file_bytes::read_full(&mut file, plan),
+        Err(_) => 0,
     }
-    let n = io::read_full(file, plan);
-    libc::close(file);
-    n
 }
 
 // What is printed for the plans in two files. One byte more is read than a plan may have, so that a longer one is seen.
-pub fn compare_files(old_name: &[u8], new_name: &[u8], text: &mut [u8; LONGEST_TEXT]) -> Printed
+pub fn compare_files<R: Files>(
+    rt: &R,
+    old_name: &[u8],
+    new_name: &[u8],
+    text: &mut [u8; LONGEST_TEXT],
+) -> Printed
     ensures from_files { FromFiles text.old result text.new }
     ensures prefix_len { IsPrefixLen result.size text.new }
 {
     let mut old = [0u8; LONGEST_PLAN + 1];
     let mut new = [0u8; LONGEST_PLAN + 1];
-    let old_size = read_file(old_name, &mut old);
-    let new_size = read_file(new_name, &mut new);
+    let old_size = read_file(rt, old_name, &mut old);
+    let new_size = read_file(rt, new_name, &mut new);
     crate::comparison::compare_text(&old[..old_size], &new[..new_size], text)
 }
 
 // The line that names the plan that is refused.
-pub fn write_refused(file: i32, refused: Which) {
+pub fn write_refused<P: Print>(file: &P, refused: Which) {
     match refused {
         Which::Neither => {}
         Which::Old => {
-            io::write_all(file, b"old is refused\n");
+            let _ = file.write_all(b"old is refused\n");
         }
         Which::New => {
-            io::write_all(file, b"new is refused\n");
+            let _ = file.write_all(b"new is refused\n");
         }
     }
 }
 
 // The files `old` and `new` compared, to standard output.
-pub fn run() {
+pub fn run<R: Files + Print, E: Print>(rt: &R, errors: &E) {
     let mut text = [0u8; LONGEST_TEXT];
-    let printed = compare_files(b"old", b"new", &mut text);
+    let printed = compare_files(rt, b"old", b"new", &mut text);
     let size = printed.size;
-    if !io::write_all(STDOUT_FILENO, &text[..size]) {
-        io::write_all(STDERR_FILENO, b"the output was not written whole\n");
+    if rt.write_all(&text[..size]).is_err() {
+        let _ = errors.write_all(b"the output was not written whole\n");
     }
     let refused = printed.refused;
-    write_refused(STDERR_FILENO, refused);
+    write_refused(errors, refused);
 }

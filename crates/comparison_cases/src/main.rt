@@ -2,13 +2,16 @@
 #![tactic(auto)]
 
 ghost use Rattle.std.specs.Prelude.{◌≤◌, length};
-ghost use Rattle.io.specs.Counts.{IsPrefixLen};
+ghost use Rattle.file_bytes.specs.Counts.{IsPrefixLen};
 
 use comparison::comparison::LONGEST_TEXT;
-use libc::STDOUT_FILENO;
+use std::io;
+use std::rt::Files;
 
-fn text(t: &[u8]) {
-    io::write_all(STDOUT_FILENO, t);
+fn lesser(a: usize, b: usize) -> usize
+    ensures { result ≤ b }
+{
+    if a < b { a } else { b }
 }
 
 // The name of a file, at the buffer's front. Answers its length.
@@ -18,11 +21,11 @@ fn file(name: &[u8], ending: &[u8], path: &mut [u8]) -> usize
 {
     words::put::bytes(path, 0, name);
     words::put::bytes(path, name.len(), ending);
-    io::count((name.len() + ending.len()) as isize, path)
+    lesser(name.len() + ending.len(), path.len())
 }
 
 // What is printed for the files NAME_old and NAME_new, and the plan that is refused, under a title.
-fn case(name: &[u8])
+fn case<R: Files + Print>(rt: &R, name: &[u8]) -> io::Result<()>
     requires { length name.now ≤ 60 }
 {
     let mut old = [0u8; 64];
@@ -30,45 +33,50 @@ fn case(name: &[u8])
     let old_end = file(name, b"_old", &mut old);
     let new_end = file(name, b"_new", &mut new);
     let mut output = [0u8; LONGEST_TEXT];
-    let printed = comparison::program::compare_files(&old[..old_end], &new[..new_end], &mut output);
+    let printed = comparison::program::compare_files(
+        rt,
+        &old[..old_end],
+        &new[..new_end],
+        &mut output,
+    );
     let size = printed.size;
     let refused = printed.refused;
-    text(name);
-    text(b":\n");
-    text(&output[..size]);
-    comparison::program::write_refused(STDOUT_FILENO, refused);
-    text(b"\n");
+    rt.write_all(name)?;
+    rt.write_all(b":\n")?;
+    rt.write_all(&output[..size])?;
+    comparison::program::write_refused(rt, refused);
+    rt.write_all(b"\n")
 }
 
-fn main() {
-    case(b"equal");
-    case(b"one_address");
-    case(b"several_stretches");
-    case(b"most_stretches");
-    case(b"too_many_stretches");
-    case(b"correction_listed_last");
-    case(b"other_run");
-    case(b"no_run_against_a_run");
-    case(b"neither_has_a_run");
-    case(b"missing_old");
-    case(b"missing_new");
-    case(b"both_missing");
-    case(b"old_refused_2");
-    case(b"old_refused_3");
-    case(b"old_refused_5");
-    case(b"old_refused_9");
-    case(b"old_refused_11");
-    case(b"old_refused_19");
-    case(b"new_refused_2");
-    case(b"new_refused_3");
-    case(b"new_refused_5");
-    case(b"new_refused_9");
-    case(b"new_refused_11");
-    case(b"new_refused_19");
-    case(b"longest");
-    case(b"old_too_long");
-    case(b"new_too_long");
-    case(b"old_too_long_new_refused");
-    case(b"old_refused_new_too_long");
-    case(b"top_of_the_address_space");
+fn main(rt: HostRuntime) -> io::Result<()> {
+    case(&rt, b"equal")?;
+    case(&rt, b"one_address")?;
+    case(&rt, b"several_stretches")?;
+    case(&rt, b"most_stretches")?;
+    case(&rt, b"too_many_stretches")?;
+    case(&rt, b"correction_listed_last")?;
+    case(&rt, b"other_run")?;
+    case(&rt, b"no_run_against_a_run")?;
+    case(&rt, b"neither_has_a_run")?;
+    case(&rt, b"missing_old")?;
+    case(&rt, b"missing_new")?;
+    case(&rt, b"both_missing")?;
+    case(&rt, b"old_refused_2")?;
+    case(&rt, b"old_refused_3")?;
+    case(&rt, b"old_refused_5")?;
+    case(&rt, b"old_refused_9")?;
+    case(&rt, b"old_refused_11")?;
+    case(&rt, b"old_refused_19")?;
+    case(&rt, b"new_refused_2")?;
+    case(&rt, b"new_refused_3")?;
+    case(&rt, b"new_refused_5")?;
+    case(&rt, b"new_refused_9")?;
+    case(&rt, b"new_refused_11")?;
+    case(&rt, b"new_refused_19")?;
+    case(&rt, b"longest")?;
+    case(&rt, b"old_too_long")?;
+    case(&rt, b"new_too_long")?;
+    case(&rt, b"old_too_long_new_refused")?;
+    case(&rt, b"old_refused_new_too_long")?;
+    case(&rt, b"top_of_the_address_space")
 }

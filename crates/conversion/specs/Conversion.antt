@@ -1,5 +1,6 @@
 -- What the programs `plan_to_aplx`, `plan_to_shared_aplx` and `plan_to_srom` write for the plan that they read.
-use Rattle.std.specs.Prelude.{◌≡◌, List, ℕ, ◌≤◌, ltb, length}
+use Rattle.std.specs.Prelude.{◌≡◌, List, ℕ, ◌≤◌, Option, ltb, length}
+use Rattle.std.specs.Io.KnownBytes.{Consumes}
 use Rattle.words.specs.Choice.{if◌then◌else◌}
 use Rattle.words.specs.Store.{store}
 use Rattle.plan.specs.Packed.{Packed}
@@ -25,10 +26,12 @@ converted packing plan n = if ltb 32768 (length plan) then refusal_line 11 0 els
 abbrev pub written : Packing → List ℕ → ℕ → List ℕ
 written packing plan n = fitting (converted packing plan n) n
 
--- what is answered and left for the plan in a file: r bytes, and last of an output m of 65,536 bytes. The plan is what was read, and no
--- contract can say which bytes these are; of a longer input one byte past the limit is read at most
-pub record FromFile (packing : Packing) (m : List ℕ) (r : ℕ) (last : List ℕ) : Type 0 where
+-- what is answered and left for the plan in a file: r bytes, and last of an output m of 65,536 bytes. The plan is what was read: the bytes
+-- that a reader had before and no longer has after, where it says which these are, as a file or standard input does not. Of a longer input
+-- one byte past the limit is read at most
+pub record FromFile (before after : Option (List ℕ)) (packing : Packing) (m : List ℕ) (r : ℕ) (last : List ℕ) : Type 0 where
   pub plan : List ℕ
+  pub taken : Consumes before after plan
   pub read : length plan ≤ 32769
   pub length-is : r ≡ length (written packing plan 65536)
   pub output-is : last ≡ store m 0 (written packing plan 65536)

@@ -2,8 +2,9 @@
 -- to 32,768 bytes (a longer plan is refusal 10, place the piece count), so that what it writes can be packed and compared. A refused image
 -- gives only the line `refused N at P` and a newline. An input longer than 65,536 bytes gets one line on standard error and nothing on
 -- standard output, since no number of the table is its cause.
-use Rattle.std.specs.Prelude.{◌≡◌, List, ℕ, ◌≤◌, ltb, length}
-use Rattle.io.specs.Counts.{IsPrefixLen}
+use Rattle.std.specs.Prelude.{◌≡◌, List, ℕ, ◌≤◌, Option, ltb, length}
+use Rattle.std.specs.Io.KnownBytes.{Consumes}
+use Rattle.file_bytes.specs.Counts.{IsPrefixLen}
 use Rattle.words.specs.Choice.{if◌then◌else◌}
 use Rattle.words.specs.Store.{store}
 use Rattle.aplx_read.specs.ReadBack.{read_back}
@@ -36,10 +37,12 @@ abbrev pub Inside : Written → List ℕ → Type 0
 Inside (Bytes size) m = IsPrefixLen size m
 Inside TooLong m = Unit {0}
 
--- what is answered and left for the image in a file: r, and last of an output m of 32,768 bytes. The image is what was read, and no contract
--- can say which bytes these are; of a longer input one byte past the limit is read at most
-pub record FromImageFile (m : List ℕ) (r : Written) (last : List ℕ) : Type 0 where
+-- what is answered and left for the image in a file: r, and last of an output m of 32,768 bytes. The image is what was read: the bytes that
+-- a reader had before and no longer has after, where it says which these are, as a file or standard input does not. Of a longer input one byte
+-- past the limit is read at most
+pub record FromImageFile (before after : Option (List ℕ)) (m : List ℕ) (r : Written) (last : List ℕ) : Type 0 where
   pub image : List ℕ
+  pub taken : Consumes before after image
   pub read : length image ≤ 65537
   pub answer-is : r ≡ answer_of (restored image 32768)
   pub output-is : last ≡ output_of (restored image 32768) m

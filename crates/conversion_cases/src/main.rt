@@ -3,79 +3,73 @@
 
 use conversion::convert::Packing;
 use conversion::read_back::Written;
-use libc::STDOUT_FILENO;
-
-fn text(t: &[u8]) {
-    io::write_all(STDOUT_FILENO, t);
-}
+use std::rt::Files;
+use std::{fs, io};
 
 // The bytes as they stand, under a title with their number.
-fn show(name: &[u8], kind: &[u8], bytes: &[u8]) {
-    text(name);
-    text(kind);
-    io::print_decimal(STDOUT_FILENO, bytes.len() as u64);
-    text(b" bytes\n");
-    text(bytes);
-    text(b"\n");
+fn show<R: Print>(rt: &R, name: &str, kind: &str, bytes: &[u8]) -> io::Result<()> {
+    let n = bytes.len();
+    println!(rt; "{name}{kind}{n} bytes")?;
+    rt.write_all(bytes)?;
+    rt.println("")
 }
 
 // What is written for the plan in a file.
-fn convert(name: &[u8], packing: Packing, packing_name: &[u8]) {
-    let file = os::open_read(name);
-    if file < 0 {
-        os::fail(name);
-        return;
+fn convert<R: Files + Print + Eprint>(
+    rt: &R,
+    name: &str,
+    packing: Packing,
+    packing_name: &str,
+) -> io::Result<()> {
+    match fs::open(rt, name) {
+        Ok(mut file) => {
+            let mut output = [0u8; 65536];
+            let size = conversion::program::convert_file(packing, &mut file, &mut output);
+            show(rt, name, packing_name, &output[..size])
+        }
+        Err(error) => eprintln!(rt; "{name}: {error}"),
     }
-    let mut output = [0u8; 65536];
-    let size = conversion::program::convert_file(packing, file, &mut output);
-    libc::close(file);
-    show(name, packing_name, &output[..size]);
 }
 
-fn plan(name: &[u8]) {
-    convert(name, Packing::Aplx, b", APLX: ");
-    convert(name, Packing::SharedAplx, b", shared APLX: ");
-    convert(name, Packing::Srom, b", SROM: ");
+fn plan<R: Files + Print + Eprint>(rt: &R, name: &str) -> io::Result<()> {
+    convert(rt, name, Packing::Aplx, ", APLX: ")?;
+    convert(rt, name, Packing::SharedAplx, ", shared APLX: ")?;
+    convert(rt, name, Packing::Srom, ", SROM: ")
 }
 
 // What is written for the image in a file.
-fn image(name: &[u8]) {
-    let file = os::open_read(name);
-    if file < 0 {
-        os::fail(name);
-        return;
-    }
-    let mut output = [0u8; 32768];
-    let written = conversion::program::read_back_file(file, &mut output);
-    libc::close(file);
-    match written {
-        Written::Bytes { size } => show(name, b", plan: ", &output[..size]),
-        Written::TooLong => {
-            text(name);
-            text(b", plan: too long, nothing is written\n");
+fn image<R: Files + Print + Eprint>(rt: &R, name: &str) -> io::Result<()> {
+    match fs::open(rt, name) {
+        Ok(mut file) => {
+            let mut output = [0u8; 32768];
+            match conversion::program::read_back_file(&mut file, &mut output) {
+                Written::Bytes { size } => show(rt, name, ", plan: ", &output[..size]),
+                Written::TooLong => println!(rt; "{name}, plan: too long, nothing is written"),
+            }
         }
+        Err(error) => eprintln!(rt; "{name}: {error}"),
     }
 }
 
-fn main() {
-    plan(b"coefficients");
-    plan(b"empty");
-    plan(b"refused");
-    plan(b"refused_by_both");
-    plan(b"largest");
-    plan(b"larger");
-    plan(b"too_long");
-    plan(b"srom_largest");
-    plan(b"srom_larger");
-    plan(b"channels");
-    plan(b"shared_largest");
-    plan(b"shared_larger");
-    image(b"image_coefficients");
-    image(b"empty");
-    image(b"image_refused");
-    image(b"image_largest");
-    image(b"image_longest_plan");
-    image(b"image_longer_plan");
-    image(b"image_and_more");
-    image(b"image_too_long");
+fn main(rt: HostRuntime) -> io::Result<()> {
+    plan(&rt, "coefficients")?;
+    plan(&rt, "empty")?;
+    plan(&rt, "refused")?;
+    plan(&rt, "refused_by_both")?;
+    plan(&rt, "largest")?;
+    plan(&rt, "larger")?;
+    plan(&rt, "too_long")?;
+    plan(&rt, "srom_largest")?;
+    plan(&rt, "srom_larger")?;
+    plan(&rt, "channels")?;
+    plan(&rt, "shared_largest")?;
+    plan(&rt, "shared_larger")?;
+    image(&rt, "image_coefficients")?;
+    image(&rt, "empty")?;
+    image(&rt, "image_refused")?;
+    image(&rt, "image_largest")?;
+    image(&rt, "image_longest_plan")?;
+    image(&rt, "image_longer_plan")?;
+    image(&rt, "image_and_more")?;
+    image(&rt, "image_too_long")
 }

@@ -2,11 +2,11 @@
 // second/programs.py makes them. A message is five words: its kind, the bytes of the image that are lent with it, and its numbers.
 #![tactic(auto)]
 
-ghost use Rattle.std.specs.Prelude.{◌≤◌, length};
+ghost use Rattle.std.specs.Prelude.{◌≡◌, ◌≤◌, length};
 
 use flood_fill::message::Message;
 use flood_fill::receiver::{Answer, Received, Receiver};
-use libc::STDOUT_FILENO;
+use std::{fs, io};
 use words::read::le_word_at;
 
 const MESSAGE_BYTES: usize = 20;
@@ -41,41 +41,31 @@ fn message_of(kind: u32, first: u32, second: u32, third: u32) -> Message {
     Message::BlockEnd { block: first }
 }
 
-fn text(t: &[u8]) {
-    io::write_all(STDOUT_FILENO, t);
+fn number<R: Print>(rt: &R, n: u64) -> io::Result<()> {
+    rt.print(" ")?;
+    rt.print(n)
 }
 
-fn number(n: u64) {
-    text(b" ");
-    io::print_decimal(STDOUT_FILENO, n);
-}
-
-fn write(answer: Answer) {
+fn write<R: Print>(rt: &R, answer: Answer) -> io::Result<()> {
     match answer {
         Answer::Refused(refusal) => {
-            text(b"refused");
-            number(refusal.number as u64);
-            number(refusal.place as u64);
+            rt.print("refused")?;
+            number(rt, refusal.number as u64)?;
+            number(rt, refusal.place as u64)?;
         }
-        Answer::Accepted => {
-            text(b"accepted");
-        }
-        Answer::Ignored => {
-            text(b"ignored");
-        }
+        Answer::Accepted => rt.print("accepted")?,
+        Answer::Ignored => rt.print("ignored")?,
         Answer::Missing {
             number: missing,
             lowest,
         } => {
-            text(b"missing");
-            number(missing as u64);
-            number(lowest as u64);
+            rt.print("missing")?;
+            number(rt, missing as u64)?;
+            number(rt, lowest as u64)?;
         }
-        Answer::Done => {
-            text(b"done");
-        }
+        Answer::Done => rt.print("done")?,
     }
-    text(b"\n");
+    rt.println("")
 }
 
 fn lesser(a: usize, b: usize) -> usize
@@ -92,7 +82,13 @@ fn lend(receiver: Receiver, message: Message, image: &mut [u8], bytes: usize) ->
 }
 
 // The message with an index; the receiver afterwards.
-fn step(receiver: Receiver, messages: &[u8], index: u32, image: &mut [u8]) -> Receiver {
+fn step<R: Print>(
+    rt: &R,
+    receiver: Receiver,
+    messages: &[u8],
+    index: u32,
+    image: &mut [u8],
+) -> io::Result<Receiver> {
     let at = MESSAGE_BYTES * (index as usize);
     let message = message_of(
         le_word_at(messages, at),
@@ -103,31 +99,39 @@ fn step(receiver: Receiver, messages: &[u8], index: u32, image: &mut [u8]) -> Re
     let lent = lesser(le_word_at(messages, at + 4) as usize, image.len());
     let received = lend(receiver, message, image, lent);
     let answer = received.answer;
-    write(answer);
-    received.receiver
+    write(rt, answer)?;
+    Ok(received.receiver)
 }
 
 // So many messages, each to the receiver that the last one left.
-fn all(messages: &[u8], count: u32, image: &mut [u8]) {
+fn all<R: Print>(rt: &R, messages: &[u8], count: u32, image: &mut [u8]) -> io::Result<()> {
     let mut receiver = Receiver::empty();
     let mut i: u32 = 0;
     while i < count {
-        let next = step(receiver, messages, i, image);
+        let next = step(rt, receiver, messages, i, image)?;
         receiver = next;
         i += 1;
     }
+    Ok(())
 }
 
-fn main() {
-    let file = os::open_read(b"messages");
-    let mut messages = io::large_buffer();
-    let n = io::read_full(file, &mut messages);
-    libc::close(file);
+// Room for the messages. Its length is all that is known of it, so that a proof need not go through it.
+fn room() -> [u8; 65536]
+    ensures { 65536 ≡ length result }
+{
+    [0; 65536]
+}
+
+fn main(rt: HostRuntime) -> io::Result<()> {
+    let mut file = fs::open(&rt, "messages")?;
+    let mut messages = room();
+    let n = file_bytes::read_full(&mut file, &mut messages);
     let mut image = [0xeeu8; 1200];
     all(
+        &rt,
         &messages[..n],
         (n / MESSAGE_BYTES % 65536) as u32,
         &mut image,
-    );
-    text(&image);
+    )?;
+    rt.write_all(&image)
 }

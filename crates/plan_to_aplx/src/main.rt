@@ -3,6 +3,6 @@
 
 use conversion::convert::Packing;
 
-fn main() {
-    conversion::program::run(Packing::Aplx);
+fn main(rt: HostRuntime) {
+    conversion::program::run(&rt, Packing::Aplx);
 }

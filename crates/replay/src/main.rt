@@ -2,6 +2,10 @@
 #![tactic(auto)]
 
 ghost use Rattle.std.specs.Prelude.{◌≡◌, length};
+ghost use Rattle.file_bytes.specs.Counts.{IsPrefixLen};
+
+use std::rt::Files;
+use std::{fs, io};
 
 mod output; // text, numbers and bytes
 mod scan; // the characters of a line
@@ -9,18 +13,19 @@ mod argument; // one argument of a call
 mod calls; // which call a line names, and its arguments
 mod library; // the calls of the library for C
 mod maps; // the questions that a map alone answers
-mod flood_fill; // the calls of the flood-fill receiver
+mod flood_fill_calls; // the calls of the flood-fill receiver
 mod make; // makes a call
 mod lines; // one line after the other
 
 // Whether the lines of a text were replayed to the end. The buffers of the calls are empty before the first.
-fn replayed(text: &[u8]) -> bool {
+fn replayed<R: Print>(rt: &R, text: &[u8]) -> io::Result<bool> {
     let mut kept = [0usize; 4];
     let mut table = [0u8; 8192];
     let mut memory = [0u8; 8192];
     let mut out = [0u8; 8192];
     let mut input = [0u8; 8192];
     lines::all(
+        rt,
         text,
         &mut kept,
         &mut table,
@@ -31,16 +36,16 @@ fn replayed(text: &[u8]) -> bool {
 }
 
 // Whether the text of a file was replayed. A file that fills the buffer may be longer.
-fn checked(text: &[u8]) -> bool {
+fn checked<R: Print>(rt: &R, text: &[u8]) -> io::Result<bool> {
     if text.len() == 0 {
-        output::text(b"a file is empty, or was not found\n");
-        return false;
+        output::text(rt, b"a file is empty, or was not found\n")?;
+        return Ok(false);
     }
     if text.len() >= 1048576 {
-        output::text(b"a file is too long\n");
-        return false;
+        output::text(rt, b"a file is too long\n")?;
+        return Ok(false);
     }
-    replayed(text)
+    replayed(rt, text)
 }
 
 // Room for the text of a file. Its length is all that is known of it, so that a proof need not go through it.
@@ -50,16 +55,25 @@ fn room() -> [u8; 1048576]
     [0; 1048576]
 }
 
-fn file(name: &[u8]) -> bool {
-    let descriptor = os::open_read(name);
-    let mut text = room();
-    let n = io::read_full(descriptor, &mut text);
-    libc::close(descriptor);
-    checked(&text[..n])
+// The bytes of a file at the buffer's front; none where it can't be opened. Answers their number.
+fn read_file<R: Files>(rt: &R, name: &str, buffer: &mut [u8]) -> usize
+    ensures { IsPrefixLen result buffer.new }
+{
+    match fs::open(rt, name) {
+        Ok(mut file) => file_bytes::read_full(&mut file, buffer),
+        Err(_) => 0,
+    }
 }
 
-fn main() {
-    if file(b"cases") {
-        file(b"vectors");
+fn file<R: Files + Print>(rt: &R, name: &str) -> io::Result<bool> {
+    let mut text = room();
+    let n = read_file(rt, name, &mut text);
+    checked(rt, &text[..n])
+}
+
+fn main(rt: HostRuntime) -> io::Result<()> {
+    if file(&rt, "cases")? {
+        file(&rt, "vectors")?;
     }
+    Ok(())
 }

@@ -1,14 +1,14 @@
 // Text, numbers and bytes on standard output.
-ghost use Rattle.io.specs.Counts.{IsPrefixLen};
+ghost use Rattle.file_bytes.specs.Counts.{IsPrefixLen};
 
-use libc::STDOUT_FILENO;
+use std::io;
 
-pub(crate) fn text(t: &[u8]) {
-    io::write_all(STDOUT_FILENO, t);
+pub(crate) fn text<R: Print>(rt: &R, t: &[u8]) -> io::Result<()> {
+    rt.write_all(t)
 }
 
-pub(crate) fn number(n: u64) {
-    io::print_decimal(STDOUT_FILENO, n);
+pub(crate) fn number<R: Print>(rt: &R, n: u64) -> io::Result<()> {
+    rt.print(n)
 }
 
 // The hex digit of the low four bits.
@@ -18,24 +18,25 @@ fn digit(n: u8) -> u8 {
 }
 
 // A byte in hex.
-fn pair(b: u8) {
+fn pair<R: Print>(rt: &R, b: u8) -> io::Result<()> {
     let digits = [digit(b / 16), digit(b)];
-    text(&digits);
+    text(rt, &digits)
 }
 
 // Bytes in hex.
-fn pairs(s: &[u8]) {
+fn pairs<R: Print>(rt: &R, s: &[u8]) -> io::Result<()> {
     let mut i: usize = 0;
     while i < s.len() {
-        pair(s[i]);
+        pair(rt, s[i])?;
         i += 1;
     }
+    Ok(())
 }
 
 // Bytes in hex, on one line.
-pub(crate) fn bytes(s: &[u8]) {
-    pairs(s);
-    text(b"\n");
+pub(crate) fn bytes<R: Print>(rt: &R, s: &[u8]) -> io::Result<()> {
+    pairs(rt, s)?;
+    text(rt, b"\n")
 }
 
 // The least place from which on all bytes are the given one.
@@ -53,51 +54,51 @@ fn row_from(s: &[u8], b: u8) -> usize
 }
 
 // Bytes in hex, on one line; those at the end that are all the same stand as one of them and their number.
-pub(crate) fn shortened(s: &[u8]) {
+pub(crate) fn shortened<R: Print>(rt: &R, s: &[u8]) -> io::Result<()> {
     if s.len() > 0 {
         let last = s[s.len() - 1];
         let at = row_from(s, last);
-        pairs(&s[..at]);
-        text(b"+");
-        pair(last);
-        text(b"*");
-        number((s.len() - at) as u64);
+        pairs(rt, &s[..at])?;
+        text(rt, b"+")?;
+        pair(rt, last)?;
+        text(rt, b"*")?;
+        number(rt, (s.len() - at) as u64)?;
     }
-    text(b"\n");
+    text(rt, b"\n")
 }
 
 // One number on a line.
-pub(crate) fn one(n: u64) {
-    number(n);
-    text(b"\n");
+pub(crate) fn one<R: Print>(rt: &R, n: u64) -> io::Result<()> {
+    number(rt, n)?;
+    text(rt, b"\n")
 }
 
-pub(crate) fn returned(n: u32) {
-    one(n as u64);
+pub(crate) fn returned<R: Print>(rt: &R, n: u32) -> io::Result<()> {
+    one(rt, n as u64)
 }
 
 // Two numbers on a line.
-pub(crate) fn two(a: u64, b: u64) {
-    number(a);
-    text(b" ");
-    one(b);
+pub(crate) fn two<R: Print>(rt: &R, a: u64, b: u64) -> io::Result<()> {
+    number(rt, a)?;
+    text(rt, b" ")?;
+    one(rt, b)
 }
 
 // Three numbers on a line.
-pub(crate) fn three(a: u64, b: u64, c: u64) {
-    number(a);
-    text(b" ");
-    two(b, c);
+pub(crate) fn three<R: Print>(rt: &R, a: u64, b: u64, c: u64) -> io::Result<()> {
+    number(rt, a)?;
+    text(rt, b" ")?;
+    two(rt, b, c)
 }
 
 // The returned number and those of the outcome.
-pub(crate) fn numbers(n: u32, outcome: [u64; 8]) {
-    number(n as u64);
+pub(crate) fn numbers<R: Print>(rt: &R, n: u32, outcome: [u64; 8]) -> io::Result<()> {
+    number(rt, n as u64)?;
     let mut i: usize = 0;
     while i < 8 {
-        text(b" ");
-        number(outcome[i]);
+        text(rt, b" ")?;
+        number(rt, outcome[i])?;
         i += 1;
     }
-    text(b"\n");
+    text(rt, b"\n")
 }

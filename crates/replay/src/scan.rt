@@ -1,6 +1,6 @@
 // The characters of a line: places, words, decimal numbers, pairs of hex digits.
 ghost use Rattle.std.specs.Prelude.{◌≤◌, length};
-ghost use Rattle.io.specs.Counts.{IsPrefixLen};
+ghost use Rattle.file_bytes.specs.Counts.{IsPrefixLen};
 
 // Behind every line: what was looked for does not stand there.
 pub(crate) const NONE: usize = 0xffffffff;

@@ -2,6 +2,7 @@
 use crate::library::word;
 use crate::output;
 use receiver_bytes::layout::RECEIVER;
+use std::io;
 use words::put::bytes;
 
 // The receiver that the table has.
@@ -12,13 +13,25 @@ fn receiver_of(table: &[u8]) -> [u8; RECEIVER] {
 }
 
 // Writes what a call answered, and the receiver that it left, which becomes the table.
-fn left(answer: u32, outcome: [u64; 8], receiver: &[u8; RECEIVER], table: &mut [u8]) {
-    output::numbers(answer, outcome);
-    output::bytes(receiver);
+fn left<R: Print>(
+    rt: &R,
+    answer: u32,
+    outcome: [u64; 8],
+    receiver: &[u8; RECEIVER],
+    table: &mut [u8],
+) -> io::Result<()> {
+    output::numbers(rt, answer, outcome)?;
+    output::bytes(rt, receiver)?;
     bytes(table, 0, receiver);
+    Ok(())
 }
 
-pub(crate) fn start(numbers: [usize; 9], table: &mut [u8], image: &[u8]) {
+pub(crate) fn start<R: Print>(
+    rt: &R,
+    numbers: [usize; 9],
+    table: &mut [u8],
+    image: &[u8],
+) -> io::Result<()> {
     let mut receiver = receiver_of(table);
     let mut outcome = [0u64; 8];
     let answer = reidhintsje::message::reidhintsje_flood_fill_start(
@@ -28,10 +41,15 @@ pub(crate) fn start(numbers: [usize; 9], table: &mut [u8], image: &[u8]) {
         word(numbers[3]),
         &mut outcome,
     );
-    left(answer, outcome, &receiver, table);
+    left(rt, answer, outcome, &receiver, table)
 }
 
-pub(crate) fn block_start(numbers: [usize; 9], table: &mut [u8], image: &[u8]) {
+pub(crate) fn block_start<R: Print>(
+    rt: &R,
+    numbers: [usize; 9],
+    table: &mut [u8],
+    image: &[u8],
+) -> io::Result<()> {
     let mut receiver = receiver_of(table);
     let mut outcome = [0u64; 8];
     let answer = reidhintsje::message::reidhintsje_flood_fill_block_start(
@@ -41,10 +59,15 @@ pub(crate) fn block_start(numbers: [usize; 9], table: &mut [u8], image: &[u8]) {
         word(numbers[3]),
         &mut outcome,
     );
-    left(answer, outcome, &receiver, table);
+    left(rt, answer, outcome, &receiver, table)
 }
 
-pub(crate) fn block_data(numbers: [usize; 9], table: &mut [u8], image: &[u8]) {
+pub(crate) fn block_data<R: Print>(
+    rt: &R,
+    numbers: [usize; 9],
+    table: &mut [u8],
+    image: &[u8],
+) -> io::Result<()> {
     let mut receiver = receiver_of(table);
     let mut outcome = [0u64; 8];
     let answer = reidhintsje::message::reidhintsje_flood_fill_block_data(
@@ -55,10 +78,15 @@ pub(crate) fn block_data(numbers: [usize; 9], table: &mut [u8], image: &[u8]) {
         word(numbers[4]),
         &mut outcome,
     );
-    left(answer, outcome, &receiver, table);
+    left(rt, answer, outcome, &receiver, table)
 }
 
-pub(crate) fn block_end(numbers: [usize; 9], table: &mut [u8], image: &mut [u8]) {
+pub(crate) fn block_end<R: Print>(
+    rt: &R,
+    numbers: [usize; 9],
+    table: &mut [u8],
+    image: &mut [u8],
+) -> io::Result<()> {
     let mut receiver = receiver_of(table);
     let mut outcome = [0u64; 8];
     let answer = reidhintsje::message::reidhintsje_flood_fill_block_end(
@@ -67,6 +95,6 @@ pub(crate) fn block_end(numbers: [usize; 9], table: &mut [u8], image: &mut [u8])
         word(numbers[2]),
         &mut outcome,
     );
-    left(answer, outcome, &receiver, table);
-    output::bytes(image);
+    left(rt, answer, outcome, &receiver, table)?;
+    output::bytes(rt, image)
 }
