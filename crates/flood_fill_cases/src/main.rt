@@ -106,11 +106,8 @@ fn step<R: Print>(
 // So many messages, each to the receiver that the last one left.
 fn all<R: Print>(rt: &R, messages: &[u8], count: u32, image: &mut [u8]) -> io::Result<()> {
     let mut receiver = Receiver::empty();
-    let mut i: u32 = 0;
-    while i < count {
-        let next = step(rt, receiver, messages, i, image)?;
-        receiver = next;
-        i += 1;
+    for i in 0..count {
+        receiver = step(rt, receiver, messages, i, image)?;
     }
     Ok(())
 }
