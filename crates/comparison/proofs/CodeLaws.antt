@@ -3,7 +3,7 @@ use Rattle.std.specs.Prelude.{◌≡◌, refl, Bool, List, ℕ, ◌≤◌, ◌<�
 use Rattle.std.proofs.Common.{ap, ◌∙◌, arith, length-take-le}
 use Rattle.std.proofs.Math.Path.{sym}
 use borrow.Author.Tests.{lt-ltb, le-ltb}
-use Rattle.io.specs.Counts.{IsPrefixLen}
+use Rattle.file_bytes.specs.Counts.{IsPrefixLen}
 use Rattle.words.specs.Choice.{All}
 use Rattle.words.specs.Store.{store}
 use Rattle.text.proofs.DecimalLaws.{width-most}
