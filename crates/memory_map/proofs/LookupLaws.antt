@@ -12,7 +12,7 @@ use Rattle.memory_region.specs.Region.{permits, place_in, ends_inside}
 use Rattle.memory_region.proofs.RegionLaws.{Permits, Clear, permits-facts, facts-permits, ends-facts}
 use Rattle.memory_map.specs.Map.{regions_of, all_keep_rules, sound}
 use Rattle.memory_map.proofs.MapLaws.{In, first, later, every_in, rules, in_kept, behind-clear, same-or-clear, sound-facts}
-use Rattle.memory_map.specs.Lookup.{Found, at, refused, Lookup, found, place_of, lookup_in, lookup}
+use Rattle.memory_map.specs.Lookup.{Found, at, refused, Lookup, found, place_of, lookup_in, lookup, lookup-computes}
 
 -- ---- lookup in a list of regions
 -- the region of a found range
@@ -81,10 +81,6 @@ module _
         go (inr c) = absurd (apart_none c.bytes (p + x) (omega arith) (omega arith) (omega arith) (omega arith))
 
 -- ---- lookup
-pub lookup-computes : (m : Map) (r : Right) (a n : ℕ) → lookup m r a n ≡ lookup_in (regions_of m) r a n
-unfolding lookup
-lookup-computes m r a n = refl
-
 pub lookup-is : (m : Map) → lookup m ≡ lookup_in (regions_of m)
 lookup-is m = λ d r a n. lookup-computes m r a n d
 

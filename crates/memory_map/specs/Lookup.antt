@@ -1,5 +1,5 @@
--- Lookup (paper 01, "Memory map"): the buffer place of a permitted range. `lookup` is shut; its laws stand below it.
-use Rattle.std.specs.Prelude.{Bool, true, false, List, [], ◌∷◌, ℕ}
+-- Lookup (paper 01, "Memory map"): the buffer place of a permitted range. `lookup` is shut; its other laws stand in proofs/LookupLaws.antt.
+use Rattle.std.specs.Prelude.{◌≡◌, refl, Bool, true, false, List, [], ◌∷◌, ℕ}
 use Rattle.words.specs.Choice.{if◌then◌else◌}
 use Rattle.memory_region.specs.declared.region.Region.{Region}
 use Rattle.memory_region.specs.declared.region.Right.{Right}
@@ -38,3 +38,8 @@ lookup m = lookup_in (regions_of m)
 abbrev pub found_of : CodeFound.Found → Found
 found_of (At p) = at p
 found_of (Refused n) = refused n
+
+-- how it is computed: the one law that looks into it
+pub lookup-computes : (m : Map) (r : Right) (a n : ℕ) → lookup m r a n ≡ lookup_in (regions_of m) r a n
+unfolding lookup
+lookup-computes m r a n = refl

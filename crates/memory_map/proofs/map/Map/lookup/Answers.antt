@@ -4,7 +4,7 @@ use Prim.Native.Nat.{◌-◌}
 use native.Mathlib.Omega.{arith}
 use lib.ListN.{length}
 use Rattle.memory_map.proofs.Loops.{search-hits, search-goes, search-end}
-use Rattle.memory_map.proofs.LookupLaws.{lookup-computes}
+use Rattle.memory_map.specs.Lookup.{lookup-computes}
 use Rattle.memory_map.specs.Lookup.{at}
 use Rattle.memory_map.proofs.map.Map.lookup.Goals as goal
 
