@@ -8,8 +8,8 @@ use Rattle.aplx_look.proofs.look.look_entries.Goals as goal
 use Rattle.aplx_look.proofs.look.look_entries.Goals.{In-Stops}
 
 -- the walk ended with a stop
-stopped : (c : In-Stops) → ending_is c.walk_entries-walked.result.ending ≡ stops (stop_of c.in-Refused.refusal)
-stopped c = ap ending_is c.in-Refused.is
+stopped : (c : In-Stops) → ending_is c.walk_entries-walked.result.ending ≡ stops (stop_of c.in-Stops.stop)
+stopped c = ap ending_is c.in-Stops.is
 
 pub check_header-requires : goal.check_header-requires
 check_header-requires c = let s = c in

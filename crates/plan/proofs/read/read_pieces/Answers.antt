@@ -9,7 +9,7 @@ use Rattle.plan.specs.Code.{unit_of, row_is, judged_is, piece_is}
 use Rattle.plan.proofs.CodeLaws.{Lengths, read-lengths}
 use Rattle.plan.proofs.Reading.{counts_start, counts-good, counts-bad, counts_end}
 use Rattle.plan.proofs.read.read_pieces.Goals as goal
-use Rattle.plan.proofs.read.read_pieces.Goals.{At-loop-i, In-Good}
+use Rattle.plan.proofs.read.read_pieces.Goals.{In-Good}
 
 pub loop-i-init : goal.loop-i-init
 loop-i-init c = let x = c.args in
@@ -17,20 +17,17 @@ loop-i-init c = let x = c.args in
 
 -- the piece read is the plan's, and its lengths are
 module _ (c : In-Good) where
-  abbrev k : At-loop-i
-  k = c
-
   abbrev plan : List ℕ
-  plan = k.before.before.args.plan.now
+  plan = c.args.plan.now
 
   abbrev unit : ℕ
-  unit = unit_of k.before.before.args.target
+  unit = unit_of c.args.target
 
-  is-good : piece_at unit plan k.loop.i ≡ good (row_is c.in-Good.piece)
+  is-good : piece_at unit plan c.loop-i.i ≡ good (row_is c.in-Good.piece)
   is-good = sym c.piece_at.ensures ∙ ap judged_is c.in-Good.is
 
   piece-lengths : Lengths plan c.in-Good.piece
-  piece-lengths = read-lengths unit plan k.before.shared-slice-known.given k.before.before.pre.1 k.loop.i _ is-good
+  piece-lengths = read-lengths unit plan c.type_inv.plan c.requires.1 c.loop-i.i _ is-good
 
 pub overflow_add-puts : goal.overflow_add-puts
 overflow_add-puts c = let l = piece-lengths (goal.at.overflow_add-puts c).In-Good in omega arith
@@ -40,14 +37,14 @@ overflow_add-fills c = let l = piece-lengths (goal.at.overflow_add-fills c).In-G
 
 pub loop-i-preserved : goal.loop-i-preserved
 loop-i-preserved c = let d = c in
-    let s = k (goal.at.loop-i-preserved c).In-Good in
-    let x = s.before.before.args in
+    let s = c in
+    let x = s.args in
     let p = piece_is x.plan.now d.in-Good.piece in
     let l = piece-lengths (goal.at.loop-i-preserved c).In-Good in
     let e : c.put_length-puts.result ≡ length (data_of p) = omega arith in
     let f : c.fill_length-fills.result ≡ filled_by p = omega arith in
-    let more = counts-good (unit_of x.target) x.plan.now x.count s.loop.i s.loop.puts s.loop.fills (omega arith) (is-good (goal.at.loop-i-preserved c).In-Good) in
-    (rw (e, f) (sym more ∙ s.loop.inv.0), (omega arith, omega arith))
+    let more = counts-good (unit_of x.target) x.plan.now x.count s.loop-i.i s.loop-i.puts s.loop-i.fills (omega arith) (is-good (goal.at.loop-i-preserved c).In-Good) in
+    (rw (e, f) (sym more ∙ s.loop-i.invariant.0), (omega arith, omega arith))
 
 pub returns-in-Bad : goal.returns-in-Bad
 returns-in-Bad c = let s = c in
