@@ -21,34 +21,27 @@ use Rattle.aplx_look.proofs.header.check_header.Invariants.{command_there}
 use Rattle.aplx_look.proofs.header.check_header.Goals as goal
 use Rattle.aplx_look.proofs.header.check_header.Goals.{After-bytes_of-stored, After-command_at-command, After-meets_header, After-place-entry, In-loop-i}
 
--- the entry in turn passed its tests
-entry : (c : In-loop-i) → let x = c.args in Entry (lookup x.map) x.memory.now c.loop-i.address c.loop-i.i
-entry c =
-    let s = c in
-    let x = s.args in
-    let l = c.loop-i in
-    goes-found (lookup x.map) x.memory.now l.address l.i (rw l.invariant.0 (s.requires.1 l.i (omega arith)))
-
--- its place
-placed : (c : After-place-entry) → let x = c.args in c.place-entry.result ≡ place_of (lookup x.map Read c.loop-i.address 16)
-placed c = c.place-entry.ensures ∙ ap place_of c.lookup.ensures
-
-command : (c : After-command_at-command)
-    → let x = c.args in
-    command_is c.command_at-command.result ≡ command_there x.map x.memory.now c.loop-i.address
-command c = rw (placed c) at c.command_at-command.ensures
-
 -- whether its destination meets the entries
 met : (c : After-meets_header)
     → let x = c.args in
     meets_header x.header (16 * (x.count + 1)) (command_there x.map x.memory.now c.loop-i.address) ≡ c.meets_header.result
-met c = rw (← command c) (sym c.meets_header.ensures)
+met c =
+    let x = c.args in
+    let k : command_is c.command_at-command.result ≡ command_there x.map x.memory.now c.loop-i.address =
+    rw (c.place-entry.ensures ∙ ap place_of c.lookup.ensures) at c.command_at-command.ensures
+    in
+    rw (← k) (sym c.meets_header.ensures)
 
 -- its bytes, counted
 bytes : (c : After-bytes_of-stored)
     → let x = c.args in
     c.bytes_of-stored.result ≡ bytes_of (command_there x.map x.memory.now c.loop-i.address)
-bytes c = c.bytes_of-stored.ensures ∙ ap bytes_of (command c)
+bytes c =
+    let x = c.args in
+    let k : command_is c.command_at-command.result ≡ command_there x.map x.memory.now c.loop-i.address =
+    rw (c.place-entry.ensures ∙ ap place_of c.lookup.ensures) at c.command_at-command.ensures
+    in
+    c.bytes_of-stored.ensures ∙ ap bytes_of k
 
 -- they fit the address space, as does the entry
 few : (c : After-bytes_of-stored) → (c.bytes_of-stored.result ≤ 4294967280) × (c.loop-i.address + 16 ≤ 4294967280)
@@ -57,7 +50,7 @@ few c =
     let s = d in
     let x = s.args in
     let a = d.loop-i.address in
-    let e = entry d in
+    let e = goes-found (lookup x.map) x.memory.now a d.loop-i.i (rw d.loop-i.invariant.0 (s.requires.1 d.loop-i.i (omega arith))) in
     let laws = lawful x.map (length x.memory.now) s.requires.0 in (
       rw (bytes c, found-place e.found-there) (goes-bytes laws a d.loop-i.i (command_at x.memory.now e.place a) e.passes),
       laws.below Read a 16 e.place e.found-there,

@@ -30,7 +30,8 @@ there : (c : In-Block)
 there c =
     let i = c in
     let x = i.args in
-    located (lookup x.map) x.s.now _ c.in-Block.address c.in-Block.place c.in-Block.from c.in-Block.to (item-there i ∙ ap item_of c.in-Block.is)
+    located (lookup x.map) x.s.now _ c.in-Block.address c.in-Block.place c.in-Block.from c.in-Block.to
+    (ap (λ (o : ℕ). item_at (lookup x.map) x.s.now o) (sym c.pads_end-at.ensures) ∙ sym c.item_at.ensures ∙ ap item_of c.in-Block.is)
 
 -- its range ends inside memory
 inside : (c : In-Block)

@@ -22,7 +22,8 @@ there : (c : In-Block)
     Located (lookup x.map) x.s.now c.loop-from.next c.in-Block.address c.in-Block.place c.in-Block.from c.in-Block.to
 there c =
     let x = c.args in
-    located (lookup x.map) x.s.now _ c.in-Block.address c.in-Block.place c.in-Block.from c.in-Block.to (item-there c ∙ ap item_of c.in-Block.is)
+    located (lookup x.map) x.s.now _ c.in-Block.address c.in-Block.place c.in-Block.from c.in-Block.to
+    (ap (λ (o : ℕ). item_at (lookup x.map) x.s.now o) (sym c.pads_end-at.ensures) ∙ sym c.item_at.ensures ∙ ap item_of c.in-Block.is)
 
 pub loop-from-init : goal.loop-from-init
 loop-from-init c = let x = c.args in (counted_none (walk (lookup x.map) x.s.now x.offset), omega arith, omega arith)
