@@ -1,0 +1,13 @@
+use mathlib.Core.Path.{◌≡◌}
+use Prim.Native.Nat.{◌-◌, ◌≤◌}
+use lib.ListN.{length}
+use Rattle.plan.specs.Packed.{plan_pieces}
+use Rattle.srom_pack.specs.Image.{block_at}
+use Rattle.srom_pack.proofs.Packing.{Written}
+use Rattle.srom_pack.proofs.pack.write_image.Given as goal
+
+abbrev pub invariant-loop-i : goal.invariant-loop-i
+invariant-loop-i l = Written (plan_pieces 4 l.plan) l.initial.output l.output l.i × ((l.at ≡ block_at (plan_pieces 4 l.plan) l.i) × ((length l.output ≡ length l.initial.output) × (l.i ≤ l.count)))
+
+abbrev pub decreases-loop-i : goal.decreases-loop-i
+decreases-loop-i l = l.count - l.i
