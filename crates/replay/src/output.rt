@@ -25,10 +25,8 @@ fn pair<R: Print>(rt: &R, b: u8) -> io::Result<()> {
 
 // Bytes in hex.
 fn pairs<R: Print>(rt: &R, s: &[u8]) -> io::Result<()> {
-    let mut i: usize = 0;
-    while i < s.len() {
-        pair(rt, s[i])?;
-        i += 1;
+    for b in s {
+        pair(rt, *b)?;
     }
     Ok(())
 }
@@ -94,11 +92,9 @@ pub(crate) fn three<R: Print>(rt: &R, a: u64, b: u64, c: u64) -> io::Result<()> 
 // The returned number and those of the outcome.
 pub(crate) fn numbers<R: Print>(rt: &R, n: u32, outcome: [u64; 8]) -> io::Result<()> {
     number(rt, n as u64)?;
-    let mut i: usize = 0;
-    while i < 8 {
+    for n in outcome {
         text(rt, b" ")?;
-        number(rt, outcome[i])?;
-        i += 1;
+        number(rt, n)?;
     }
     text(rt, b"\n")
 }
