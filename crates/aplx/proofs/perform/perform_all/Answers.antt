@@ -20,17 +20,12 @@ there c =
     let s = c in
     next c.loop-i.invariant (lawful s.args.map (length s.args.memory.now) s.requires.0) s.requires.1 (omega arith)
 
--- its place
-placed : (c : After-place-entry)
-    → let l = c in
-    c.place-entry.result ≡ place_of (lookup l.args.map Read l.loop-i.address 16)
-placed c = c.place-entry.ensures ∙ ap place_of c.lookup.ensures
 
 -- its command
 commanded : (c : After-command_at-command)
     → let l = c in
     command_is c.command_at-command.result ≡ entry_at (lookup l.args.map) l.loop-i.memory l.loop-i.address
-commanded c = rw (placed c) at c.command_at-command.ensures
+commanded c = rw (c.place-entry.ensures ∙ ap place_of c.lookup.ensures) at c.command_at-command.ensures
 
 pub loop-i-init : goal.loop-i-init
 loop-i-init c = start _ _ _ _

@@ -36,7 +36,7 @@ module _ (c : After-accepted_at-piece) where
 pub write_block-requires : goal.write_block-requires
 write_block-requires c = let d = c in
     let n = next-piece (goal.at.write_block-requires c).After-accepted_at-piece in
-    (n.writable, omega (arith, next_place n, next-inside (goal.at.write_block-requires c).After-accepted_at-piece, length-set (c d).args.output.now 0 0x55))
+    (n.writable, omega (arith, next_place n, next-inside (goal.at.write_block-requires c).After-accepted_at-piece, length-set c.args.output.now 0 0x55))
 
 pub overflow_add-at : goal.overflow_add-at
 overflow_add-at c = omega (arith, (next-piece (goal.at.overflow_add-at c).After-accepted_at-piece).sizes.most)
@@ -50,14 +50,14 @@ overflow_add-at-in-loop-i-2 c = let d = c in omega (arith, next_place (next-piec
 pub loop-i-preserved : goal.loop-i-preserved
 loop-i-preserved c = let d = c in
     let n = next-piece (goal.at.loop-i-preserved c).After-accepted_at-piece in
-    let x = (c d).args in
-    let i = (c d).loop.i in
+    let x = c.args in
+    let i = c.loop-i.i in
     let w = c.write_block in
     let m = set x.output.now 0 0x55 in
     let fits : length (srom_image (ps (goal.at.loop-i-preserved c).After-accepted_at-piece)) ≤ length m = omega (arith, length-set x.output.now 0 0x55) in
     let block = block_of (piece_is x.plan.now d.accepted_at-piece.result) in
-    let more : Written (ps (goal.at.loop-i-preserved c).After-accepted_at-piece) m w.new.1.1.0 (i + 1) =
-    rw w.ensures (written-more (ps (goal.at.loop-i-preserved c).After-accepted_at-piece) m i block fits (c d).loop.invariant.0 (c d).loop.invariant.1.0 (blocks-through n)) in
+    let more : Written (ps (goal.at.loop-i-preserved c).After-accepted_at-piece) m w.new.output (i + 1) =
+    rw w.ensures (written-more (ps (goal.at.loop-i-preserved c).After-accepted_at-piece) m i block fits c.loop-i.invariant.0 c.loop-i.invariant.1.0 (blocks-through n)) in
     (more, (omega (arith, next_place n), (length-written (ps (goal.at.loop-i-preserved c).After-accepted_at-piece) m (i + 1) fits more, omega arith)))
 
 pub bounds-output-at : goal.bounds-output-at
