@@ -38,7 +38,8 @@ overflow_add-size-in-Pieces-2 c = omega (arith, read-plan (goal.at.overflow_add-
 
 pub returns-then-output-size : goal.returns-then-output-size
 unfolding pack_srom
-returns-then-output-size c = let d = c in let facts = leaves-small srom_image (read_plan 4 (plan (goal.at.returns-then-output-size c).In-Pieces)) c.args.output.now (counted-read (read-plan (goal.at.returns-then-output-size c).In-Pieces)) (size_is (goal.at.returns-then-output-size c).In-Pieces) (omega arith) in
+returns-then-output-size c = let d = c in
+    let facts = leaves-small srom_image (read_plan 4 (plan (goal.at.returns-then-output-size c).In-Pieces)) c.args.output.now (counted-read (read-plan (goal.at.returns-then-output-size c).In-Pieces)) (size_is (goal.at.returns-then-output-size c).In-Pieces) (omega arith) in
     record { result_value = facts.0; output_after = facts.1 }
 
 pub overflow_cast-count : goal.overflow_cast-count
@@ -51,11 +52,11 @@ write_image-requires c = let d = c in
 pub returns-in-Refused : goal.returns-in-Refused
 unfolding pack_srom
 returns-in-Refused c = let x = c.args in
-let facts = leaves-refused srom_image (read_plan 4 x.plan.now) x.output.now c.read.ensures c.in-Refused.is in
+    let facts = leaves-refused srom_image (read_plan 4 x.plan.now) x.output.now c.read.ensures c.in-Refused.is in
     record { result_value = facts.0; output_after = facts.1 }
 
 pub returns-else-output-size : goal.returns-else-output-size
 unfolding pack_srom
 returns-else-output-size c = let d = c in
-let facts = leaves-image srom_image (read_plan 4 (plan (goal.at.returns-else-output-size c).In-Pieces)) c.args.output.now (counted-read (read-plan (goal.at.returns-else-output-size c).In-Pieces)) (size_is (goal.at.returns-else-output-size c).In-Pieces) (omega arith) c.write_image.ensures in
+    let facts = leaves-image srom_image (read_plan 4 (plan (goal.at.returns-else-output-size c).In-Pieces)) c.args.output.now (counted-read (read-plan (goal.at.returns-else-output-size c).In-Pieces)) (size_is (goal.at.returns-else-output-size c).In-Pieces) (omega arith) c.write_image.ensures in
     record { result_value = facts.0; output_after = facts.1 }

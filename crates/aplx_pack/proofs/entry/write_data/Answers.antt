@@ -1,0 +1,37 @@
+-- `aplx_pack::entry::write_data` meets its contract: a put has its part of the plan, and another piece no data.
+use mathlib.Core.Path.{◌≡◌, sym, ◌∙◌}
+use Prim.Native.Nat.{◌+◌, ◌-◌, ◌≤◌}
+use native.Mathlib.Omega.{arith}
+use lib.ListN.{length, take, drop}
+use Rattle.words.proofs.StoreLaws.{store-fits, store-nil}
+use Rattle.plan.specs.declared.piece.Piece.TheVariants.{Put}
+use Rattle.plan.specs.Code.Packer.{Writable}
+use Rattle.plan.proofs.PlanLaws.{data-length}
+use Rattle.aplx_pack.proofs.entry.write_data.Goals as goal
+use Rattle.aplx_pack.proofs.entry.write_data.Goals.{In-Put}
+
+-- what is required of a put
+put-fits : (c : In-Put) → let x = c.args in
+    Writable 32 x.plan.now (Put c.in-Put.address c.in-Put.from c.in-Put.length) × (x.place + c.in-Put.length ≤ length x.output.now)
+put-fits c = rw c.in-Put.is at c.requires
+
+pub overflow_add-end : goal.overflow_add-end
+overflow_add-end c = omega (arith, put-fits (goal.at.overflow_add-end c).In-Put)
+
+pub slice_bounds-bytes-end : goal.slice_bounds-bytes-end
+slice_bounds-bytes-end c = (put-fits (goal.at.slice_bounds-bytes-end c).In-Put).0.0
+
+pub returns-in-Put : goal.returns-in-Put
+returns-in-Put c = let d = c in
+    let x = d.args in
+    let h = put-fits (goal.at.returns-in-Put c).In-Put in
+    let e : c.in-Put.from + c.in-Put.length - c.in-Put.from ≡ c.in-Put.length = omega arith in
+    let bytes = take c.in-Put.length (drop c.in-Put.from x.plan.now) in
+    let l : length bytes ≡ c.in-Put.length = data-length x.plan.now c.in-Put.from c.in-Put.length h.0.0 in
+    rw d.in-Put.is (rw e at c.bytes.ensures ∙ store-fits x.output.now x.place bytes (omega arith))
+
+pub returns-in-Fill : goal.returns-in-Fill
+returns-in-Fill c = rw c.in-Fill.is (sym (store-nil c.args.output.now c.args.place))
+
+pub returns-in-Run : goal.returns-in-Run
+returns-in-Run c = rw c.in-Run.is (sym (store-nil c.args.output.now c.args.place))
