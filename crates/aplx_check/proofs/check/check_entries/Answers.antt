@@ -68,37 +68,47 @@ returns-then-not-is_due c = let d = c in
     c.refused_at-then-not-is_due.ensures ∙ sym e ∙ (rw (found_here (goal.at.returns-then-not-is_due c).After-accepted_at-piece).from at l.invariant.2)
 
 -- the entry is what is due
-module _ (c : After-part_length-length) where
-  is-due-here : let x = (c c).args in
-      is_due x.image.now (16 * (x.end + 1)) (16 * (c c).loop.entry) (rest_of (due c).done (piece_due (ps c) (due c))) ≡ true
-  is-due-here = rw (is-piece c) (sym c.is_due.ensures ∙ not-false _ c.if-not-is_due.false-raw)
+module _ (c : After-part_length-length)
+    (more-left : c.loop-entry.due.index < length (plan_pieces 1 c.args.plan.now))
+    (piece-there : piece_due (plan_pieces 1 c.args.plan.now) c.loop-entry.due ≡ piece_is c.args.plan.now c.accepted_at-piece.result)
+  where
+    is-due-here : let x = c.args in
+        is_due x.image.now (16 * (x.end + 1)) (16 * c.loop-entry.entry) (rest_of c.loop-entry.due.done (piece_due (plan_pieces 1 x.plan.now) c.loop-entry.due))
+        ≡ true
+    is-due-here = rw piece-there (sym c.is_due.ensures ∙ not-false _ c.if-not-is_due.false-raw)
 
-  length_here : c.part_length-length.result ≡ part_length (c c).args.image.now (16 * (c c).loop.entry) (piece_due (ps c) (due c))
-  length_here = rw (is-piece c) (c.part_length-length.ensures _)
+    length_here : c.part_length-length.result
+        ≡ part_length c.args.image.now (16 * c.loop-entry.entry) (piece_due (plan_pieces 1 c.args.plan.now) c.loop-entry.due)
+    length_here = rw piece-there (c.part_length-length.ensures _)
 
-  ends-here : (due c).done + c.part_length-length.result ≤ put_length c.accepted_at-piece.result + fill_length c.accepted_at-piece.result
-  ends-here =
-      let x = (c c).args in
-      let l = (c c).loop in
-      let e = part-ends x.image.now (16 * (x.end + 1)) x.end l.entry (omega arith) (ps c) (due c) (more c) is-due-here l.inv.1.1 in
-      omega (arith, size-here read, length_here, e)
+    ends-here : size_of (piece_due (plan_pieces 1 c.args.plan.now) c.loop-entry.due)
+        ≡ put_length c.accepted_at-piece.result + fill_length c.accepted_at-piece.result
+        → c.loop-entry.due.done + c.part_length-length.result ≤ put_length c.accepted_at-piece.result + fill_length c.accepted_at-piece.result
+    ends-here size =
+        let x = c.args in
+        let l = c.loop-entry in
+        let e = part-ends x.image.now (16 * (x.end + 1)) x.end l.entry (omega arith) (plan_pieces 1 x.plan.now) l.due more-left is-due-here l.invariant.1.1 in
+        omega (arith, size, length_here, e)
 
 pub overflow_add-put_length : goal.overflow_add-put_length
 overflow_add-put_length c = let f = (found_here (goal.at.overflow_add-put_length c).After-accepted_at-piece).sizes.most in omega arith
 
 pub after_part-due-requires : goal.after_part-due-requires
-after_part-due-requires c = let f = c in
-    let p = (c c).pre.0 in
-    (omega (arith, more (goal.at.after_part-due-requires c).After-accepted_at-piece, p.few, p.counts), omega (arith, ends-here (goal.at.after_part-due-requires c).After-part_length-length))
+after_part-due-requires c =
+    let p = c.requires.0 in
+    let d = (goal.at.after_part-due-requires c).After-accepted_at-piece in
+    let f = (goal.at.after_part-due-requires c).After-part_length-length in
+    (omega (arith, more d, p.few, p.counts), omega (arith, ends-here f (more d) (is-piece d) (size-here d)))
 
 pub loop-entry-preserved : goal.loop-entry-preserved
-loop-entry-preserved c = let f = c in
-    let d = c in
+loop-entry-preserved c =
+    let d = (goal.at.loop-entry-preserved c).After-accepted_at-piece in
+    let f = (goal.at.loop-entry-preserved c).After-part_length-length in
     let x = c.args in
     let l = c.loop-entry in
-    let a = due-next x.image.now (16 * (x.end + 1)) x.end l.entry (omega arith) (ps (goal.at.loop-entry-preserved c).After-accepted_at-piece) (due (goal.at.loop-entry-preserved c).After-accepted_at-piece) (more (goal.at.loop-entry-preserved c).After-accepted_at-piece) (is-due-here (goal.at.loop-entry-preserved c).After-part_length-length) l.invariant.1.1 in
-    let s : c.put_length.result + c.fill_length.result ≡ size_of (piece_due (ps (goal.at.loop-entry-preserved c).After-accepted_at-piece) (due (goal.at.loop-entry-preserved c).After-accepted_at-piece)) = omega (arith, size-here (goal.at.loop-entry-preserved c).After-accepted_at-piece) in
-    let e = rw (length_here (goal.at.loop-entry-preserved c).After-part_length-length, s) at c.after_part-due.ensures in
+    let a = due-next x.image.now (16 * (x.end + 1)) x.end l.entry (omega arith) (ps d) (due d) (more d) (is-due-here f (more d) (is-piece d)) l.invariant.1.1 in
+    let s : c.put_length.result + c.fill_length.result ≡ size_of (piece_due (ps d) (due d)) = omega (arith, size-here d) in
+    let e = rw (length_here f (more d) (is-piece d), s) at c.after_part-due.ensures in
     (omega arith, rw e a.within, rw e (sym a.same ∙ l.invariant.2))
 
 pub returns-then-due-count-2 : goal.returns-then-due-count-2

@@ -55,4 +55,4 @@ returns c = let b = c in
       eq-eqb (little_endian_at 4 x.image.now (k + 4)) x.address (rw e at b.if-w-address.false),
       p,
     )
-    (rw (c.wrapping_add_u32-source.ensures, e) at c.has_data.ensures)
+    (rw (c.wrapping_add_u32-source.ensures.value, e) at c.has_data.ensures)
