@@ -48,8 +48,8 @@ loop-i-init c = let d = c in
 
 -- the piece read is the image's
 module _ (c : After-accepted_at-piece) where
-  next-piece : Found 32 (c c).args.image.now (ps c) c.loop-i.i c.accepted_at-piece.result
-  next-piece = found (c c).args.image.now c.type_inv.image (c c).pre.0.accepted c.loop-i.i (omega arith) _ c.accepted_at-piece.ensures
+  next-piece : Found 32 c.args.image.now (image_pieces c.args.image.now) c.loop-i.i c.accepted_at-piece.result
+  next-piece = found c.args.image.now c.type_inv.image c.requires.0.accepted c.loop-i.i (omega arith) _ c.accepted_at-piece.ensures
 
 pub write_row-requires : goal.write_row-requires
 write_row-requires c = let d = c in
