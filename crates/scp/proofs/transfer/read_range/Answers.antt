@@ -50,4 +50,4 @@ pub returns-in-Refused : goal.returns-in-Refused
 returns-in-Refused c = let k = c in
     let x = k.args in
     let e = looked (lookup x.map) Read (arg1 x.packet.now) (arg2 x.packet.now) k.le_word_at-address.ensures k.le_word_at-size.ensures k.lookup.ensures k.in-Refused.is in
-    coded-return x.packet.now x.memory.now x.output.now (omega arith) ARG (simp e) c.coded-in-Refused.ensures
+    coded-return x.packet.now x.memory.now x.output.now (omega arith) ARG (simp e) (c.coded-in-Refused.ensures.result_value, c.coded-in-Refused.ensures.output_after)

@@ -18,9 +18,8 @@ write_range-requires c = let x = c.args in
 pub returns-in-Codes : goal.returns-in-Codes
 unfolding write_packet
 returns-in-Codes c = let x = c.args in
-    let code = c.code-1 in
-    let told = sym c.judge.ensures ∙ ap transfer_is code.is in
-    coded-return x.packet.now x.memory.now x.output.now (omega arith) code.code (simp told) c.coded.ensures
+    let told = sym c.judge.ensures ∙ ap transfer_is c.in-Codes.is in
+    coded-return x.packet.now x.memory.now x.output.now (omega arith) c.in-Codes.code (simp told) (c.coded.ensures.result_value, c.coded.ensures.output_after)
 
 pub returns-in-Moves : goal.returns-in-Moves
 unfolding write_packet

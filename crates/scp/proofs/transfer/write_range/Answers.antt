@@ -20,10 +20,10 @@ returns-in-At c = let k = c in
     let e = looked (lookup x.map) Write (arg1 x.packet.now) n k.le_word_at-address.ensures k.le_word_at-size.ensures k.lookup.ensures k.in-At.is in
     let i = (lawful x.map (length x.memory.now) s.requires.1).inside Write _ _ _ e in
     rw (c.bytes.ensures ∙ data-stored x.packet.now x.memory.now p n s.requires.2 i)
-    (coded-return x.packet.now d x.output.now (omega arith) OK (simp e) c.coded.ensures)
+    (coded-return x.packet.now d x.output.now (omega arith) OK (simp e) (c.coded.ensures.result_value, c.coded.ensures.output_after))
 
 pub returns-in-Refused : goal.returns-in-Refused
 returns-in-Refused c = let k = c in
     let x = k.args in
     let e = looked (lookup x.map) Write (arg1 x.packet.now) (arg2 x.packet.now) k.le_word_at-address.ensures k.le_word_at-size.ensures k.lookup.ensures k.in-Refused.is in
-    coded-return x.packet.now x.memory.now x.output.now (omega arith) ARG (simp e) c.coded-in-Refused.ensures
+    coded-return x.packet.now x.memory.now x.output.now (omega arith) ARG (simp e) (c.coded-in-Refused.ensures.result_value, c.coded-in-Refused.ensures.output_after)
