@@ -1,5 +1,5 @@
 -- A plan without equal puts is packed as before: the image is the plain one.
-use Rattle.std.specs.Prelude.{◌≡◌, refl, Bool, true, false, List, [], ◌∷◌, ◌++◌, ℕ, ◌+◌, length}
+use Rattle.std.specs.Prelude.{◌≡◌, refl, Bool, true, false, List, [], ◌∷◌, ◌++◌, ℕ, suc, ◌+◌, ◌*◌, length}
 use Rattle.std.proofs.Common.{ap, sym, ◌∙◌, append_assoc, add-zero, arith}
 use Rattle.words.specs.Choice.{if◌then◌else◌}
 use Rattle.words.proofs.ChoiceLaws.{true-is-false}
@@ -32,10 +32,13 @@ entries-plain before [] h = refl
 entries-plain before (put a d ∷ ps) h =
     let e : place (before ++ d ∷ contents ps) d ≡ total_length before =
     place-behind before (d ∷ contents ps) d (not-before before (contents ps) d h) ∙ rw (equal-same d) (add-zero (total_length before)) in
-    let s : before ++ d ∷ contents ps ≡ (before ++ d ∷ []) ++ contents ps = sym (append_assoc before (d ∷ []) (contents ps)) in
+    let s : before ++ contents (put a d ∷ ps) ≡ (before ++ d ∷ []) ++ contents ps = sym (append_assoc before (d ∷ []) (contents ps)) in
     let n : total_length (before ++ d ∷ []) ≡ total_length before + length d = total_length-append before (d ∷ []) ∙ omega arith in
     let r = entries-plain (before ++ d ∷ []) ps (rw s at h) in
-    rw e (rw (s, r, n))
+    let x : shared_entries (before ++ contents (put a d ∷ ps)) ps ≡ entries (total_length before + length d) ps =
+    ap (λ (k : List (List ℕ)). shared_entries k ps) s ∙ r ∙ ap (λ (k : ℕ). entries k ps) n
+    in
+    rw e (ap (λ (l : List ℕ). entry_of (put a d) (16 * suc (suc (length ps)) + total_length before) ++ l) x)
 entries-plain before (fill a n w ∷ ps) h = rw (entries-plain before ps h, add-zero)
 entries-plain before (run a ∷ ps) h = rw (entries-plain before ps h, add-zero)
 
