@@ -1,6 +1,6 @@
 -- The image that keeps one copy of equal data is laid out as is claimed, and no other image of the same pieces is.
 use Rattle.std.specs.Prelude.{◌≡◌, Bool, true, false, take}
-use Rattle.std.proofs.Math.Path.{refl, ap, sym}
+use Rattle.std.proofs.Math.Path.{refl, ap, sym, subst}
 use Rattle.std.proofs.Common.{◌∙◌, take-append-drop, drop-drop}
 use mathlib.Core.List.{List, [], ◌∷◌, ◌++◌, append_assoc, append-nil}
 use Prim.Native.Nat.{ℕ, suc, ◌+◌, ◌*◌, ◌≤◌}
@@ -32,7 +32,10 @@ module _ (ps : List Piece) where
   entry-is earlier p later y =
       let kept = kept_contents ps in
       let off = 16 * suc (suc (length later)) + place_of kept p in
-      let e : drop (16 * length earlier) (shared_image ps) ≡ shared_entries kept (p ∷ later) ++ joined kept = rw y (at_piece earlier p later) in
+      let e : drop (16 * length earlier) (shared_image ps) ≡ shared_entries kept (p ∷ later) ++ joined kept =
+      subst (λ (qs : List Piece). drop (16 * length earlier) (shared_image qs) ≡ shared_entries (kept_contents qs) (p ∷ later) ++ joined (kept_contents qs))
+      (sym y) (at_piece earlier p later)
+      in
       ap (take 16) (e ∙ append_assoc (entry_of p off) (shared_entries kept later) (joined kept))
       ∙ take_at (entry_of p off) (shared_entries kept later ++ joined kept) 16 (length-entry_of p off)
 
