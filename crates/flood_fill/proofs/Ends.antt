@@ -25,4 +25,4 @@ module _ (r : Receiver) (image : List ℕ) where
 
   pub ended-whole : (b n : ℕ) → missing_in (take n r.marks) ≡ 0 → block_ended r image b n ≡ completed r image b n
   unfolding block_ended
-  ended-whole b n e = rw (le-ltb 0 (missing_in (take n r.marks)) (omega arith))
+  ended-whole b n e = rw e

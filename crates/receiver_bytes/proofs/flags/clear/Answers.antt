@@ -1,7 +1,6 @@
 -- `receiver_bytes::flags::clear` meets its contract: the loop's invariant: the first i flags are 0.
 use native.Mathlib.Omega.{arith}
 use mathlib.Core.Path.{◌≡◌, refl, ap, sym, ◌∙◌}
-use Prim.Native.Nat.{◌-◌}
 use lib.ListN.{length, replicate, length-set}
 use lib.Seq.{take_all}
 use Rattle.receiver_bytes.proofs.ReceiverFlags.{one-more-zero}
@@ -12,9 +11,6 @@ loop-i-init c = (refl, omega arith, refl)
 
 pub loop-i-preserved : goal.loop-i-preserved
 loop-i-preserved c = let l = c.loop-i in (simp length-set l.invariant.0, omega arith, one-more-zero l.flags l.i (omega arith) l.invariant.2)
-
-pub same_length : goal.same_length
-same_length c = c.loop-i.invariant.0
 
 pub returns : goal.returns
 returns c = let l = c.loop-i in

@@ -1,6 +1,5 @@
 -- `receiver_bytes::flags::lowest` meets its contract: the loop's invariant: all flags before i are set.
 use native.Mathlib.Omega.{arith}
-use Prim.Native.Nat.{◌-◌}
 use Rattle.receiver_bytes.specs.Receiver.{flags_in}
 use Rattle.flood_fill.proofs.ReceiveFlags.{lowest_set, lowest-empty, lowest-none}
 use Rattle.receiver_bytes.proofs.ReceiverFlags.{length-flags, zero_flag, other-flag}

@@ -26,7 +26,7 @@ returns-then-number-gt0 c = let i = c in
     let n = i.missing_words-number in
     let d = rw n.ensures at (lt-ltb 0 n.result i.if-number-gt0.true) in
     rw (end-missing s x.image.now x.block (omega arith) p u.open_words-used.result (rw h at u.open_words-used.ensures) d, n.ensures, c.lowest_missing.ensures)
-    (refl, (refl, refl))
+    record { result_value = refl; bytes_after = refl; image_after = refl }
 
 pub overflow_mul-at : goal.overflow_mul-at
 overflow_mul-at c = omega (arith, product (goal.at.overflow_mul-at c).After-struct_known-1)
@@ -38,7 +38,7 @@ pub returns-in-Refused : goal.returns-in-Refused
 returns-in-Refused c = let t = c in
     let x = t.args in
     rw (when-refused x.bytes.now x.image.now (BlockEnd x.block) t.header_of-header.ensures t.test.ensures c.in-Refused.number c.in-Refused.is)
-    (c.refusal.ensures, (refl, refl))
+    record { result_value = c.refusal.ensures; bytes_after = refl; image_after = refl }
 
 pub returns-else-number-gt0 : goal.returns-else-number-gt0
 returns-else-number-gt0 c = let a = c in
@@ -52,4 +52,4 @@ returns-else-number-gt0 c = let a = c in
     let n = i.missing_words-number in
     let d = rw n.ensures at (le-ltb 0 n.result i.if-number-gt0.false) in
     rw (end-done s x.image.now x.block (omega arith) p u.open_words-used.result (rw h at u.open_words-used.ensures) d)
-    (refl, (c.close.ensures, rw h at a.put_words.ensures))
+    record { result_value = refl; bytes_after = c.close.ensures; image_after = rw h at a.put_words.ensures }

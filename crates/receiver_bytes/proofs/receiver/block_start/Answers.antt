@@ -19,7 +19,7 @@ pub returns-then-is_done : goal.returns-then-is_done
 returns-then-is_done c = let t = c in
     let x = t.args in
     let p = when-passed x.bytes.now x.image.now (BlockStart x.block x.size) t.header_of-header.ensures t.test.ensures c.in-Passed.is in
-    rw (block-ignored x.bytes.now x.image.now x.block x.size p (sym c.is_done.ensures ∙ c.if-is_done.true)) (refl, refl)
+    rw (block-ignored x.bytes.now x.image.now x.block x.size p (sym c.is_done.ensures ∙ c.if-is_done.true)) record { result_value = refl; bytes_after = refl }
 
 pub overflow_cast-block : goal.overflow_cast-block
 overflow_cast-block c = let f = fits (goal.at.overflow_cast-block c).After-open-arg-1 in omega (arith, f.below)
@@ -31,11 +31,11 @@ pub returns-in-Refused : goal.returns-in-Refused
 returns-in-Refused c = let t = c in
     let x = t.args in
     rw (when-refused x.bytes.now x.image.now (BlockStart x.block x.size) t.header_of-header.ensures t.test.ensures c.in-Refused.number c.in-Refused.is)
-    (c.refusal.ensures, refl)
+    record { result_value = c.refusal.ensures; bytes_after = refl }
 
 pub returns-else-is_done : goal.returns-else-is_done
 returns-else-is_done c = let i = c in
     let t = i in
     let x = t.args in
     let p = when-passed x.bytes.now x.image.now (BlockStart x.block x.size) t.header_of-header.ensures t.test.ensures i.in-Passed.is in
-    rw (block-accepted x.bytes.now x.image.now x.block x.size p (sym i.is_done.ensures ∙ i.if-is_done.false)) (refl, c.open.ensures)
+    rw (block-accepted x.bytes.now x.image.now x.block x.size p (sym i.is_done.ensures ∙ i.if-is_done.false)) record { result_value = refl; bytes_after = c.open.ensures }

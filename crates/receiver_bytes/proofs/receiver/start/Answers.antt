@@ -30,10 +30,10 @@ pub returns-in-Refused : goal.returns-in-Refused
 returns-in-Refused c = let t = c in
     let x = t.args in
     rw (when-refused x.bytes.now x.image.now (Start x.last_block x.size) t.header_of-header.ensures t.test.ensures c.in-Refused.number c.in-Refused.is)
-    (c.refusal.ensures, refl)
+    record { result_value = c.refusal.ensures; bytes_after = refl }
 
 pub returns-in-Passed : goal.returns-in-Passed
 returns-in-Passed c = let t = c in
     let x = t.args in
     let p = when-passed x.bytes.now x.image.now (Start x.last_block x.size) t.header_of-header.ensures t.test.ensures c.in-Passed.is in
-    rw (start-accepted x.bytes.now x.image.now x.last_block x.size p) (refl, c.begin.ensures)
+    rw (start-accepted x.bytes.now x.image.now x.last_block x.size p) record { result_value = refl; bytes_after = c.begin.ensures }
