@@ -4,7 +4,7 @@ use Prim.Native.Nat.{◌+◌}
 use native.Mathlib.Omega.{arith}
 use Rattle.plan.proofs.CodeLaws.{known_bytes}
 use Rattle.compare.specs.Code.Segment.{reaches-part}
-use Rattle.compare.specs.Code.Block.{is-old, is-new, compared-alike, alike-without}
+use Rattle.compare.proofs.CodeBlockLaws.{is-old, is-new, compared-alike, alike-without}
 use Rattle.compare.proofs.block.block_at.Goals as goal
 
 pub byte_at-old_byte-requires : goal.byte_at-old_byte-requires

@@ -1,7 +1,7 @@
 -- `compare::block::until` meets its contract: by the form of the old source.
 use mathlib.Core.Path.{refl, ◌∙◌}
 use native.Mathlib.Omega.{arith}
-use Rattle.compare.specs.Code.Laws.{put-at, fill-at, equal-pairs}
+use Rattle.compare.proofs.CodeLaws.{put-at, fill-at, equal-pairs}
 use Rattle.compare.proofs.block.until.Goals as goal
 
 pub overflow_sub-offset : goal.overflow_sub-offset

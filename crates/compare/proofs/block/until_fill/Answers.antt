@@ -5,7 +5,7 @@ use lib.ListN.{get_or}
 use Rattle.words.specs.Bytes.{little_endian}
 use native.Mathlib.Omega.{arith}
 use Rattle.stretches.proofs.StretchesExchanged.{eqb-turned}
-use Rattle.compare.specs.Code.Laws.{put-at, fill-at, equal-pairs}
+use Rattle.compare.proofs.CodeLaws.{put-at, fill-at, equal-pairs}
 use Rattle.compare.proofs.block.until_fill.Goals as goal
 
 pub overflow_sub-offset : goal.overflow_sub-offset

@@ -2,7 +2,7 @@
 use mathlib.Core.Path.{refl, ◌∙◌}
 use Prim.Native.Nat.{◌-◌}
 use native.Mathlib.Omega.{arith}
-use Rattle.compare.specs.Code.Laws.{put-at, fill-at, equal-pairs}
+use Rattle.compare.proofs.CodeLaws.{put-at, fill-at, equal-pairs}
 use Rattle.compare.proofs.block.until_put.Goals as goal
 
 pub overflow_sub-new_offset : goal.overflow_sub-new_offset

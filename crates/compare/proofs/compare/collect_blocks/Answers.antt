@@ -2,7 +2,7 @@
 use mathlib.Core.Path.{sym, ◌∙◌}
 use native.Mathlib.Omega.{arith}
 use Rattle.compare.specs.Code.{image_of}
-use Rattle.compare.specs.Code.Block.{sides-from}
+use Rattle.compare.proofs.CodeBlockLaws.{sides-from}
 use Rattle.compare.specs.Code.Collected.{collected-many, collected-end, collected-block}
 use Rattle.compare.proofs.compare.collect_blocks.Goals as goal
 

@@ -1,5 +1,5 @@
 -- `compare::pairs::alike` meets its contract: the pairs before `k` are as asked.
-use Rattle.compare.specs.Code.Laws.{beq_same, more}
+use Rattle.compare.proofs.CodeLaws.{beq_same, more}
 use lib.ListN.{get_or}
 use lib.Dec.{eqb}
 use Prim.Native.Nat.{◌+◌}

@@ -5,7 +5,7 @@ use Prim.Native.Nat.{ℕ, ◌+◌, ◌%◌}
 use native.Mathlib.Omega.{arith}
 use lib.ListN.{get_or}
 use Rattle.words.specs.Bytes.{little_endian}
-use Rattle.compare.specs.Code.Laws.{filling-byte, equal-pairs}
+use Rattle.compare.proofs.CodeLaws.{filling-byte, equal-pairs}
 use Rattle.compare.proofs.pairs.alike_fill_at_once.Goals as goal
 
 pub returns : goal.returns

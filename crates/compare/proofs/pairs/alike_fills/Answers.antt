@@ -5,7 +5,7 @@ use native.Mathlib.Omega.{arith}
 use lib.Dec.{eqb}
 use lib.ListN.{get_or}
 use Rattle.words.specs.Bytes.{little_endian}
-use Rattle.compare.specs.Code.Laws.{beq_same, equal-pairs, more}
+use Rattle.compare.proofs.CodeLaws.{beq_same, equal-pairs, more}
 use Rattle.compare.proofs.pairs.alike_fills.Goals as goal
 
 pub loop-k-init : goal.loop-k-init

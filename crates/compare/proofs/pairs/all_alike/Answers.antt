@@ -4,7 +4,7 @@ use Prim.Native.Nat.{◌+◌}
 use native.Mathlib.Omega.{arith}
 use lib.Dec.{eqb}
 use lib.ListN.{get_or}
-use Rattle.compare.specs.Code.Laws.{more}
+use Rattle.compare.proofs.CodeLaws.{more}
 use Rattle.compare.proofs.pairs.all_alike.Goals as goal
 
 pub loop-k-init : goal.loop-k-init

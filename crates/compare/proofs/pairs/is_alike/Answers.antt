@@ -1,7 +1,7 @@
 -- `compare::pairs::is_alike` meets its contract.
 use mathlib.Core.Path.{sym}
 use Rattle.words.proofs.ChoiceLaws.{true-is-false}
-use Rattle.compare.specs.Code.Laws.{beq_same}
+use Rattle.compare.proofs.CodeLaws.{beq_same}
 use Rattle.compare.proofs.pairs.is_alike.Goals as goal
 
 pub returns-then-old-new : goal.returns-then-old-new

@@ -2,8 +2,8 @@
 use mathlib.Core.Path.{◌∙◌}
 use Prim.Native.Nat.{◌+◌, ◌-◌}
 use native.Mathlib.Omega.{arith}
-use Rattle.compare.specs.Code.Laws as laws
-use Rattle.compare.specs.Code.Laws.{put_byte}
+use Rattle.compare.proofs.CodeLaws as laws
+use Rattle.compare.proofs.CodeLaws.{put_byte}
 use Rattle.compare.proofs.segment.byte_at.Goals as goal
 
 pub overflow_sub-i : goal.overflow_sub-i

@@ -1,6 +1,7 @@
 -- `compare::sides::sources_at` meets its contract: a segment of each plan, the new one's within the old one's.
 use Rattle.compare.specs.Reading.{addresses}
-use Rattle.compare.specs.Code.Block.{SegmentOf, sides}
+use Rattle.compare.specs.Code.Block.{SegmentOf}
+use Rattle.compare.proofs.CodeBlockLaws.{sides}
 use Rattle.compare.proofs.sides.sources_at.Goals as goal
 
 pub returns : goal.returns

@@ -14,7 +14,7 @@ use Rattle.plan.specs.Meaning.{stretch, stored_by}
 use Rattle.compare.specs.declared.segment.Source as CodeSource
 use Rattle.compare.specs.declared.segment.Source.TheVariants.{Nothing, Put, Fill}
 use Rattle.compare.specs.LastByte.{byte_at, not_stored}
-use Rattle.compare.specs.LastByte.Exact.{byte-at}
+use Rattle.compare.proofs.LastByteExact.{byte-at}
 use Rattle.compare.specs.LastByte.Segment.{nothing, source_byte, covering, border, last-segment}
 use Rattle.compare.specs.Code.{image_of}
 use Rattle.compare.specs.Code.Segment.{source_is, given_by, stored, Reaches}
