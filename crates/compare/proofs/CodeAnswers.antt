@@ -8,7 +8,7 @@ use Rattle.plan.specs.declared.piece.Piece.TheVariants as code
 use Rattle.plan.specs.Plan.{Piece, Read, refused, pieces, before}
 use Rattle.plan.specs.Code.{piece_is}
 use Rattle.stretches.specs.Stretches.{Stretch}
-use Rattle.compare.specs.Reading.{addresses, read_compared, Run, run_of, same_run}
+use Rattle.compare.specs.Reading.{addresses, read_compared, run_of, same_run}
 use Rattle.compare.proofs.ReadingLaws.{readable}
 use Rattle.compare.specs.Reading.Stretch.{run_at}
 use Rattle.compare.specs.Compare.{neither, old_plan, new_plan, Compared, refuses, finds, most_stretches, stretch_size, differences, limited, compared_below, compared, output_after}

@@ -43,7 +43,7 @@ words-at (s ∷ l) zero h = record { first = refl; last = refl; old = refl; new 
 words-at (s ∷ l) (suc i) h =
     let w = words-at l i (omega arith) in
     record {
-      first = rw (add-zero, add-zero) at (words-behind s l i 0) ∙ w.first;
+      first = rw (add-zero (4 * suc i), add-zero (4 * i)) at (words-behind s l i 0) ∙ w.first;
       last = words-behind s l i 1 ∙ w.last;
       old = words-behind s l i 2 ∙ w.old;
       new = words-behind s l i 3 ∙ w.new;

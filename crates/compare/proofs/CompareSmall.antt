@@ -1,5 +1,5 @@
 -- Each stretch that is found fits into the four words that it has in the output.
-use Rattle.std.specs.Prelude.{◌≡◌, Bool, List, [], ◌∷◌, ℕ, ◌<◌}
+use Rattle.std.specs.Prelude.{◌≡◌, Bool, List, [], ◌∷◌, ℕ, ◌+◌, ◌<◌}
 use Rattle.std.proofs.Math.Path.{refl}
 use Rattle.std.proofs.Common.{arith}
 use Rattle.words.specs.Choice.{All}
@@ -24,7 +24,7 @@ all_small old new a [] b c o e v = tt
 all_small old new a (s ∷ l) b c o e v =
     let f = last-most old s.first b in
     let g = last-most new s.first c in
-    ((omega (arith, o.1, e.0), e.0, omega (arith, f, v.0.0), omega (arith, g, v.0.1)), all_small old new _ l b c o.2 e.1 v.1)
+    ((omega (arith, o.1, e.0), e.0, omega (arith, f, v.0.0), omega (arith, g, v.0.1)), all_small old new (s.last + 2) l b c o.2 e.1 v.1)
 
 -- ---- what is found
 module _ (bound : ℕ) (P : List Stretch → Type 0) where

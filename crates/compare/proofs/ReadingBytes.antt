@@ -7,7 +7,8 @@ use Rattle.plan.specs.Plan.{Piece, data_of, pieces}
 use Rattle.plan.proofs.PlanLaws.{read-bytes}
 use Rattle.plan.specs.Meaning.{stretch}
 use Rattle.compare.specs.LastByte.{not_stored, last_byte}
-use Rattle.compare.specs.LastByte.Exact.{stores_at, not-stored, is_byte}
+use Rattle.compare.specs.LastByte.Exact.{stores_at}
+use Rattle.compare.proofs.LastByteExact.{not-stored, is_byte}
 use Rattle.compare.specs.Reading.{read_compared}
 use Rattle.compare.proofs.ReadingLaws.{readable, stretch-all}
 

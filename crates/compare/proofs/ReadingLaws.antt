@@ -15,7 +15,7 @@ use Rattle.plan.proofs.PlanAccepts.{header_read}
 use Rattle.plan.specs.Meaning.{stretch, stored_by}
 use Rattle.compare.specs.LastByte.{covers}
 use Rattle.compare.specs.LastByte.Laws.{covers-past, covers-run}
-use Rattle.compare.specs.Reading.{addresses, ends_past, judge_last, EndsBy, compared_at, compared_pieces, read_compared, at}
+use Rattle.compare.specs.Reading.{addresses, ends_past, judge_last, EndsBy, compared_at, compared_pieces, read_compared}
 
 -- ---- one step of reading k pieces, at the piece with index i
 module _ (s : List ℕ) (k i : ℕ) where

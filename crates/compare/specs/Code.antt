@@ -1,6 +1,5 @@
 -- What the code's answers say, in the terms of the definitions, and what it asks of plans that it reads.
 pub mod Segment
-pub mod Laws
 pub mod Block
 pub mod Collected
 use Rattle.std.specs.Prelude.{◌≡◌, Bool, List, ℕ, ◌+◌, ◌*◌, ◌≤◌, ◌<◌, eqb, length}

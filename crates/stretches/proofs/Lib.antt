@@ -4,3 +4,4 @@ pub mod StretchesExamples
 pub mod StretchesExchanged
 pub mod StretchesLaws
 pub mod StretchesUnique
+pub mod StretchesWordsLaws

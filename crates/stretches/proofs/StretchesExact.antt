@@ -60,6 +60,8 @@ module _ (t : Stretch) (w : t.first ≤ t.last) where
     where
       go : (b : Bool) → Listed x (s ∷ []) → Listed x (if b then up_to t.last s ∷ [] else s ∷ t ∷ [])
       go true (here p q) = let g : x ≤ t.last = omega (arith, h.0) in here p g
+      go false (there x8) = elim x8 [ ]
+      go true (there x9) = elim x9 [ ]
       go false (here p q) = here p q
   listed-old x (s ∷ r ∷ l) h (here p q) = here p q
   listed-old x (s ∷ r ∷ l) h (there i) = there (listed-old x (r ∷ l) h.1 i)
@@ -88,6 +90,8 @@ module _ (t : Stretch) (w : t.first ≤ t.last) where
       go : (b : Bool) → adjoins s t ≡ b → Listed x (if b then up_to t.last s ∷ [] else s ∷ t ∷ []) → Listed x (s ∷ []) ⊎ ((t.first ≤ x) × (x ≤ t.last))
       go true e (here p q) = near (eqb-true _ _ e) p q (leb x s.last) refl
       go false e (here p q) = inl (here p q)
+      go false e (there (there x12)) = elim x12 [ ]
+      go true e (there x10) = elim x10 [ ]
       go false e (there (here p q)) = inr (p, q)
   only x (s ∷ r ∷ l) (here p q) = inl (here p q)
   only x (s ∷ r ∷ l) (there i) = ⊎_elim (λ g. inl (there g)) (λ g. inr g) (only x (r ∷ l) i)

@@ -24,7 +24,7 @@ add t [] = t ∷ []
 add t (s ∷ []) = if adjoins s t then up_to t.last s ∷ [] else s ∷ t ∷ []
 add t (s ∷ r ∷ l) = s ∷ add t (r ∷ l)
 
-abbrev add_if : Bool → Stretch → List Stretch → List Stretch
+abbrev pub add_if : Bool → Stretch → List Stretch → List Stretch
 add_if true t l = add t l
 add_if false t l = l
 

@@ -4,7 +4,8 @@ use Rattle.std.proofs.Common.{sym, ◌∙◌, arith}
 use Rattle.words.specs.Choice.{if◌then◌else◌}
 use Rattle.stretches.specs.Stretches.{Stretch, add, below}
 use Rattle.stretches.proofs.StretchesLaws.{longer, block}
-use Rattle.stretches.specs.Stretches.Words.{Listing, listing_none, listing-same}
+use Rattle.stretches.specs.Stretches.Words.{Listing}
+use Rattle.stretches.proofs.StretchesWordsLaws.{listing_none, listing-same}
 use Rattle.compare.specs.declared.block.Block.{Block}
 use Rattle.compare.specs.Compare.{most_stretches}
 use Rattle.compare.specs.Code.{list_words, Alike}

@@ -1,11 +1,11 @@
 -- What the code's spans, sources and segments say, and their laws: a segment that is narrowed piece by piece is the definition's.
-use Rattle.std.specs.Prelude.{◌≡◌, refl, Bool, true, false, List, ℕ, ◌+◌, ◌-◌, ◌≤◌, ◌<◌, min, ltb, length, take, drop}
+use Rattle.std.specs.Prelude.{◌≡◌, refl, Bool, true, false, List, ℕ, ◌+◌, ◌≤◌, ◌<◌, min, ltb, length, take, drop}
 use Rattle.std.proofs.Common.{ap, sym, add-zero, arith, ltb-true, ltb-false}
 use Rattle.words.specs.Choice.{if◌then◌else◌}
 use Rattle.word_blocks.proofs.RepeatLaws.{length-filling}
 use Rattle.plan.specs.declared.piece.Piece as CodePiece
 use Rattle.plan.specs.declared.piece.Piece.TheVariants as code
-use Rattle.plan.specs.Plan.{put, fill, run, address_of}
+use Rattle.plan.specs.Plan.{put, fill, address_of}
 use Rattle.plan.proofs.PlanLaws.{data-length}
 use Rattle.plan.specs.Code.{piece_is}
 use Rattle.plan.specs.Code.Packer.{Writable}
@@ -14,7 +14,7 @@ use Rattle.compare.specs.declared.segment.Source as CodeSource
 use Rattle.compare.specs.declared.segment.Source.TheVariants.{Nothing, Put, Fill}
 use Rattle.compare.specs.declared.segment.Segment.{Segment}
 use Rattle.plan.specs.Meaning.{stored_by}
-use Rattle.compare.specs.LastByte.{end_of, covers}
+use Rattle.compare.specs.LastByte.{end_of}
 use Rattle.compare.specs.LastByte.Laws.{covers_at, covers_below, covers-past}
 use Rattle.compare.specs.LastByte.Segment.{Source, nothing, piece, source_byte, newer, nearer, nearer-below, nearer-at, nearer-past}
 

@@ -11,7 +11,8 @@ use Rattle.plan.specs.Plan.{Piece, data_of}
 use Rattle.stretches.specs.Stretches.{differs}
 use Rattle.compare.specs.LastByte.{covers, not_stored, after, after_all, last_byte}
 use Rattle.compare.specs.LastByte.Laws.{after-covered, after-append, not_covered}
-use Rattle.compare.specs.LastByte.Exact.{stores_at, is_byte, stored-by-old, stored-by-new}
+use Rattle.compare.specs.LastByte.Exact.{stores_at}
+use Rattle.compare.proofs.LastByteExact.{is_byte, stored-by-old, stored-by-new}
 use Rattle.compare_claims.specs.Claims.{NotStored, Leaves, Different, only-old, only-new, both, Shown, byte, not-stored}
 
 -- ---- the byte that is left is the last byte, whatever stood there before

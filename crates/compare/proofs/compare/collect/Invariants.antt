@@ -1,0 +1,11 @@
+use Prim.Native.Nat.{◌-◌, ◌≤◌}
+use Rattle.compare.specs.Reading.{addresses}
+use Rattle.compare.specs.Code.{image_of}
+use Rattle.compare.specs.Code.Collected.{Collected}
+use Rattle.compare.proofs.compare.collect.Given as goal
+
+abbrev pub invariant-loop-at : goal.invariant-loop-at
+invariant-loop-at l = Collected l.words l.count (image_of l.old) (image_of l.new) l.at × (l.at ≤ addresses)
+
+abbrev pub decreases-loop-at : goal.decreases-loop-at
+decreases-loop-at l = addresses - l.at
