@@ -11,7 +11,7 @@ use Rattle.memory_region.specs.declared.region.Right.{Right}
 use Rattle.memory_region.specs.declared.region.Right.TheVariants.{Read, Write}
 use Rattle.memory_map.specs.Lookup.{Lookup, at, found, place_of}
 use Rattle.memory_map.proofs.LookupLaws.{Lawful, apart, found_at, range_inside}
-use Rattle.aplx_copy.specs.Copy.Laws.{length-copied, copied-outside}
+use Rattle.aplx_copy.proofs.CopyLaws.{length-copied, copied-outside}
 use Rattle.aplx_command.specs.Command.{Command, copy, fill, exec, other, command_at}
 use Rattle.aplx_command.proofs.CommandLaws.{same-entry}
 use Rattle.aplx_look.specs.Look.{meets_header}

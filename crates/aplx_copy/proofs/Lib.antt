@@ -1,2 +1,3 @@
 -- Laws, theorems and computed examples.
+pub mod CopyLaws
 pub mod Examples

@@ -1,6 +1,5 @@
 -- The rule of one copy (paper 01, "APLX").
-pub mod Laws
-use Rattle.std.specs.Prelude.{◌&&◌, List, ℕ, zero, suc, ◌+◌, ◌/◌, leb, length, take, drop}
+use Rattle.std.specs.Prelude.{◌&&◌, List, ℕ, zero, suc, ◌+◌, ◌/◌, ◌≤◌, leb, length, take, drop}
 use Rattle.words.specs.Choice.{if◌then◌else◌}
 use Rattle.words.specs.Store.{store}
 
@@ -16,3 +15,8 @@ copied n d s m = copy_words (n / 4) d s m
 -- the same where both ranges lie in memory; else memory as it is
 unfoldable pub copied_if_fits : ℕ → ℕ → ℕ → List ℕ → List ℕ
 copied_if_fits n d s m = if leb (d + n) (length m) && leb (s + n) (length m) then copied n d s m else m
+
+-- no word is read after it was written over: the destination begins before the source, or behind its n bytes
+pub data Ahead (s d n : ℕ) : Type 0 where
+  down : d ≤ s → Ahead s d n
+  clear : s + n ≤ d → Ahead s d n

@@ -1,8 +1,7 @@
 // Copies within memory, as if word by word, lowest first. Ranges that do not fit leave memory as it was.
 ghost use Rattle.std.specs.Prelude.{◌≡◌, ◌+◌, ◌*◌, ◌≤◌, length, take, drop};
 ghost use Rattle.words.specs.Store.{store};
-ghost use Rattle.aplx_copy.specs.Copy.{copy_words, copied, copied_if_fits};
-ghost use Rattle.aplx_copy.specs.Copy.Laws.{Ahead};
+ghost use Rattle.aplx_copy.specs.Copy.{copy_words, copied, copied_if_fits, Ahead};
 
 // `size` bytes from one place to another, word by word, lowest first.
 fn copy_words(memory: &mut [u8], to: usize, from: usize, size: usize)

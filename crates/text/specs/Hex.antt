@@ -1,18 +1,7 @@
 -- A number in lower-case hex digits, as bytes of text.
-use Rattle.std.specs.Prelude.{◌≡◌, refl, List, [], ◌∷◌, ℕ}
+use Rattle.std.specs.Prelude.{List, ℕ}
 use Rattle.text.specs.Digits.{digits}
 
 -- the last k of them
 abbrev pub hex : ℕ → ℕ → List ℕ
 hex k n = digits 16 k n
-
--- worked examples
-pub record Examples : Type 0 where
-  pub none : hex 2 0 ≡ 48 ∷ 48 ∷ []
-  pub word : hex 8 0x0129afe0 ≡ 48 ∷ 49 ∷ 50 ∷ 57 ∷ 97 ∷ 102 ∷ 101 ∷ 48 ∷ []
-  pub largest : hex 2 255 ≡ 102 ∷ 102 ∷ []
-  pub last_digits : hex 2 0x1a9 ≡ 97 ∷ 57 ∷ []
-
-pub examples : Examples
-unfolding digits
-examples = record { none = refl; word = refl; largest = refl; last_digits = refl }

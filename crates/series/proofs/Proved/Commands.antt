@@ -18,7 +18,7 @@ use Rattle.plan.specs.Meaning.{allowed, permit, effect, effects, stretch, runs, 
 use Rattle.plan.proofs.MeaningLaws.{permitted-at, stopped-first}
 use Rattle.aplx_image.specs.Carries.{Says, Carries}
 use Rattle.aplx_image.proofs.CarriesLaws.{says-whole}
-use Rattle.aplx_copy.specs.Copy.Laws.{copied-apart}
+use Rattle.aplx_copy.proofs.CopyLaws.{copied-apart}
 use Rattle.aplx_command.specs.Command.{Command}
 use Rattle.aplx_look.specs.Walk.{commands}
 use Rattle.aplx_look.specs.Look.{meets_header, header_test}

@@ -8,7 +8,7 @@ use Rattle.words.specs.Store.{store}
 use Rattle.memory_region.specs.declared.region.Right.TheVariants.{Read, Write}
 use Rattle.memory_map.specs.Lookup.{lookup, place_of}
 use Rattle.memory_map.proofs.LookupLaws.{lawful, range_inside}
-use Rattle.aplx_copy.specs.Copy.Laws.{copied-fits}
+use Rattle.aplx_copy.proofs.CopyLaws.{copied-fits}
 use Rattle.aplx.specs.Load.{perform}
 use Rattle.aplx.proofs.perform.perform_command.Goals as goal
 use Rattle.aplx.proofs.perform.perform_command.Goals.{After-place-source, After-place-target, After-place-target-in-Fill}

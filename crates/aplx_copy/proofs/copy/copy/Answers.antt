@@ -4,7 +4,7 @@ use Prim.Native.Nat.{◌+◌, ◌≤◌}
 use lib.ListN.{length}
 use borrow.Author.Tests.{leb-true}
 use Rattle.aplx_copy.specs.Copy.{copied_if_fits}
-use Rattle.aplx_copy.specs.Copy.Laws.{copied-fits}
+use Rattle.aplx_copy.proofs.CopyLaws.{copied-fits}
 use Rattle.aplx_copy.proofs.copy.copy.Goals as goal
 use Rattle.aplx_copy.proofs.copy.copy.Goals.{Then-fits, Then-fits-2}
 

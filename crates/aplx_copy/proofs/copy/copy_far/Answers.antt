@@ -2,7 +2,7 @@
 use mathlib.Core.Path.{ap, sym, ◌∙◌}
 use Prim.Native.Nat.{◌+◌, ◌-◌, ◌*◌, ◌/◌}
 use Rattle.aplx_copy.specs.Copy.{copied}
-use Rattle.aplx_copy.specs.Copy.Laws.{copied-groups}
+use Rattle.aplx_copy.proofs.CopyLaws.{copied-groups}
 use Rattle.aplx_copy.proofs.copy.copy_far.Goals as goal
 
 pub returns : goal.returns

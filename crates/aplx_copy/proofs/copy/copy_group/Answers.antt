@@ -3,7 +3,7 @@ use mathlib.Core.Path.{◌≡◌, ap}
 use Prim.Native.Nat.{ℕ, ◌+◌, ◌-◌}
 use native.Mathlib.Omega.{arith}
 use lib.ListN.{take, drop}
-use Rattle.aplx_copy.specs.Copy.Laws.{group-copied}
+use Rattle.aplx_copy.proofs.CopyLaws.{group-copied}
 use Rattle.aplx_copy.proofs.copy.copy_group.Goals as goal
 
 pub returns : goal.returns

@@ -4,7 +4,7 @@ use Prim.Native.Nat.{◌-◌, ◌*◌}
 use native.Mathlib.Nat.{sub-zero, add-zero}
 use native.Mathlib.Omega.{arith}
 use Rattle.aplx_copy.specs.Copy.{copy_words}
-use Rattle.aplx_copy.specs.Copy.Laws.{group-next}
+use Rattle.aplx_copy.proofs.CopyLaws.{group-next}
 use Rattle.aplx_copy.proofs.copy.copy_groups.Goals as goal
 
 pub loop-i-init : goal.loop-i-init

@@ -1,14 +1,14 @@
 -- `aplx_copy::copy::copy_words` meets its contract. The loop's invariant: the copy of the words left, from here on, gives what the whole copy gives.
 use mathlib.Core.Path.{◌≡◌, refl, sym, ◌∙◌}
 use mathlib.Core.List.{List}
-use Prim.Native.Nat.{ℕ, ◌+◌, ◌-◌, ◌*◌, ◌/◌, ◌≤◌}
+use Prim.Native.Nat.{ℕ, ◌+◌, ◌*◌, ◌/◌, ◌≤◌}
 use native.Mathlib.Nat.{sub-zero, add-zero}
 use native.Mathlib.Omega.{arith}
 use lib.ListN.{length, take, drop, get_or, set, length-set}
 use Rattle.words.specs.Store.{store}
 use Rattle.words.proofs.StoreLaws.{four-elements, four-sets, store-fits}
 use Rattle.aplx_copy.specs.Copy.{copied}
-use Rattle.aplx_copy.specs.Copy.Laws.{copy-next, copy-end}
+use Rattle.aplx_copy.proofs.CopyLaws.{copy-next, copy-end}
 use Rattle.aplx_copy.proofs.copy.copy_words.Goals as goal
 
 -- the sets of one turn are the store of one word

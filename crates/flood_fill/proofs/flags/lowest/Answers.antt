@@ -1,7 +1,6 @@
 -- `flood_fill::flags::lowest` meets its contract: the loop's invariant: all flags before i are set.
 use Rattle.flood_fill.proofs.ReceiveFlags.{lowest_set, lowest-empty, lowest-none}
 use borrow.Author.Tests.{not-true, not-false}
-use Prim.Native.Nat.{◌-◌}
 use native.Mathlib.Omega.{arith}
 use Rattle.flood_fill.proofs.flags.lowest.Goals as goal
 

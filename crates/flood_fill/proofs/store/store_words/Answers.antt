@@ -8,7 +8,7 @@ use Rattle.words.proofs.StoreLaws.{store-behind, store-nil, length-store}
 use Rattle.words.specs.Store.{store}
 use lib.Seq.{take_all, length-take-le}
 use lib.ListN.{length, take, get_or, length-append}
-use Prim.Native.Nat.{◌+◌, ◌-◌, ◌*◌}
+use Prim.Native.Nat.{◌+◌, ◌*◌}
 use mathlib.Core.Path.{◌≡◌, refl, ap, sym, ◌∙◌}
 use native.Mathlib.Omega.{arith}
 use Rattle.flood_fill.proofs.store.store_words.Goals as goal

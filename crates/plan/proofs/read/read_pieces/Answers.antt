@@ -1,7 +1,7 @@
 -- `plan::read::read_pieces` meets its contract: the loop's invariant: the good pieces before `i` and their sums, with what reading the rest gives, have the outcome of the whole.
 use mathlib.Core.Path.{◌≡◌, ap, sym, ◌∙◌}
 use mathlib.Core.List.{List}
-use Prim.Native.Nat.{ℕ, ◌-◌}
+use Prim.Native.Nat.{ℕ}
 use native.Mathlib.Omega.{arith}
 use lib.ListN.{length}
 use Rattle.plan.specs.Plan.{data_of, filled_by, good, piece_at}

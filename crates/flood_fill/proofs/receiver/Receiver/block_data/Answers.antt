@@ -1,6 +1,5 @@
 -- `flood_fill::receiver::Receiver::block_data` meets its contract: each return goes by the tests before it; a mark that is empty has a place.
 use mathlib.Core.Path.{refl, sym, ◌∙◌}
-use lib.ListN.{length-map}
 use borrow.Author.Tests.{not-true, not-false}
 use native.Mathlib.Omega.{arith}
 use Rattle.flood_fill.proofs.Ends.{data-came}

@@ -1,6 +1,6 @@
 -- `flood_fill::receiver::Receiver::block_end` meets its contract: 256 marks and words, cut at 256 or at the size, are the same; then by the number that is missing.
 use mathlib.Core.Path.{◌≡◌, ap, sym, ◌∙◌}
-use lib.ListN.{take, length-take, length-map}
+use lib.ListN.{take, length-take}
 use borrow.Author.Tests.{lt-ltb}
 use native.Mathlib.Omega.{arith}
 use Rattle.flood_fill.specs.Refusals.{open_size}

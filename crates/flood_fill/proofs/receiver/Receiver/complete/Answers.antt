@@ -1,6 +1,6 @@
 -- `flood_fill::receiver::Receiver::complete` meets its contract: the words are put, and the block is done and no longer open.
 use Prim.Native.Nat.{◌≤◌}
-use lib.ListN.{length-take, length-map}
+use lib.ListN.{length-take}
 use native.Mathlib.Nat.{mul-le-mul_right}
 use native.Mathlib.Omega.{arith}
 use Rattle.flood_fill.specs.Receive.{completed}

@@ -2,7 +2,6 @@
 -- `i` keeps its own rules, and those from `j` on decide whether the later ones are clear of it.
 use mathlib.Core.Path.{sym, ◌∙◌}
 use native.Mathlib.Omega.{arith}
-use Prim.Native.Nat.{◌-◌}
 use borrow.Author.Tests.{not-true, not-false}
 use Rattle.memory_map.proofs.Loops.{every-fails, every-goes, every-end, rules-fail, rules-go, rules-end}
 use Rattle.memory_region.specs.Region.{clear}

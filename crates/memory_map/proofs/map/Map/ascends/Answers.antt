@@ -1,7 +1,6 @@
 -- `memory_map::map::Map::ascends` meets its contract: the loop's invariant: the regions from `i` on, behind the end of the one before, decide
 -- what all do.
 use mathlib.Core.Path.{sym, ◌∙◌}
-use Prim.Native.Nat.{◌-◌}
 use native.Mathlib.Omega.{arith}
 use borrow.Author.Tests.{not-true, not-false}
 use Rattle.memory_map.proofs.Loops.{in_use, none_left, all_read, ascending-fails, ascending-goes, ascending-end}

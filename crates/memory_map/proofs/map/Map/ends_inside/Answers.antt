@@ -1,6 +1,5 @@
 -- `memory_map::map::Map::ends_inside` meets its contract: the loop's invariant: the regions from `i` on decide what all do.
 use mathlib.Core.Path.{sym, ◌∙◌}
-use Prim.Native.Nat.{◌-◌}
 use native.Mathlib.Omega.{arith}
 use borrow.Author.Tests.{not-true, not-false}
 use Rattle.memory_map.proofs.Loops.{in_use, none_left, all_read, every-fails, every-goes, every-end}

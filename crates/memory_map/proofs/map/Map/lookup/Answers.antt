@@ -1,8 +1,6 @@
 -- `memory_map::map::Map::lookup` meets its contract: the loop's invariant: lookup in the regions from `i` on gives what lookup in all gives.
 use mathlib.Core.Path.{ap, sym, ◌∙◌}
-use Prim.Native.Nat.{◌-◌}
 use native.Mathlib.Omega.{arith}
-use lib.ListN.{length}
 use Rattle.memory_map.proofs.Loops.{search-hits, search-goes, search-end}
 use Rattle.memory_map.specs.Lookup.{lookup-computes}
 use Rattle.memory_map.specs.Lookup.{at}

@@ -1,6 +1,6 @@
 use mathlib.Core.Path.{◌≡◌}
 use Prim.Native.Nat.{◌-◌}
-use lib.ListN.{length, drop}
+use lib.ListN.{drop}
 use Rattle.memory_map.specs.Lookup.{lookup_in, lookup}
 use Rattle.memory_map.specs.Map.{regions_of}
 use Rattle.memory_map.proofs.map.Map.lookup.Given as goal

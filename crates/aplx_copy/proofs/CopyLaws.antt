@@ -7,7 +7,7 @@ use borrow.Author.Tests.{le-leb}
 use Rattle.words.proofs.RangeLaws.{Apart, before, behind, apart-part}
 use Rattle.words.specs.Store.{store, store_if_fits}
 use Rattle.words.proofs.StoreLaws.{length-store, part-outside, store-adjoining, store-nil, store-fits, store-whole}
-use Rattle.aplx_copy.specs.Copy.{copy_words, copied, copied_if_fits}
+use Rattle.aplx_copy.specs.Copy.{copy_words, copied, copied_if_fits, Ahead, down, clear}
 
 -- ---- k words, i of them copied
 module _ (k i d s : ℕ) (m : List ℕ) where
@@ -61,11 +61,6 @@ words-outside (suc k) d s m x y q j a =
     let l = length-first k d s m x y in
     words-outside k (d + 4) (s + 4) (store m d (take 4 (drop s m))) (omega arith) (omega arith) q j (apart-part q j (d + 4) (4 * k) a (omega arith) (omega arith) (omega arith) (omega arith))
     ∙ first-outside k d s m x y q j a
-
--- no word is read after it was written over: the destination begins before the source, or behind its n bytes
-pub data Ahead (s d n : ℕ) : Type 0 where
-  down : d ≤ s → Ahead s d n
-  clear : s + n ≤ d → Ahead s d n
 
 -- of k + 1 words, those behind the first are as they were, and are read in time
 ahead-rest : (k : ℕ) {s d : ℕ} → Ahead s d (4 * suc k) → Apart (s + 4) (4 * k) d 4 × Ahead (s + 4) (d + 4) (4 * k)
