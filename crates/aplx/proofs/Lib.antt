@@ -1,3 +1,4 @@
 pub mod Examples
 pub mod LoadKept
 pub mod Storing
+pub mod LoadLaws

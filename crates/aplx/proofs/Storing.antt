@@ -11,11 +11,12 @@ use Rattle.memory_map.specs.Lookup.{Lookup, found, place_of}
 use Rattle.memory_map.proofs.LookupLaws.{Lawful, found_at, found-place}
 use Rattle.aplx_command.specs.Command.{Command, command_at}
 use Rattle.aplx_look.specs.Walk.{commands}
-use Rattle.aplx_look.specs.Walk.Laws.{Entry, goes-found, commands-next, commands-end}
+use Rattle.aplx_look.proofs.WalkLaws.{Entry, goes-found, commands-next, commands-end}
 use Rattle.aplx_look.specs.Look.{meets_header}
 use Rattle.aplx_look.specs.Look.Laws.{Ready}
 use Rattle.aplx.specs.Load.{perform, perform_all}
-use Rattle.aplx.specs.Load.Laws.{Performable, goes-performable}
+use Rattle.aplx.specs.Load.Laws.{Performable}
+use Rattle.aplx.proofs.LoadLaws.{goes-performable}
 use Rattle.aplx.proofs.LoadKept.{length-perform, entry_kept}
 
 -- the command of the entry at address a

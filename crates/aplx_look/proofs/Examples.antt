@@ -66,6 +66,7 @@ record Stops : Type 0 where
   pub zero-unaligned : outcome (entry 3 4225 0 9 ++ last) ≡ refused 5 0
   pub unaligned-nowhere : outcome (entry 3 12289 32 9 ++ last) ≡ refused 3 0
   pub unaligned-source : outcome (entry 1 4224 4129 32 ++ last) ≡ refused 3 0
+  pub unaligned-not-writable : outcome (entry 1 8192 4129 32 ++ last) ≡ refused 3 0
   pub not-writable : outcome (entry 1 8192 4096 32 ++ last) ≡ refused 4 0
   pub not-readable : outcome (entry 1 4224 12288 32 ++ last) ≡ refused 4 0
   -- the lengths of both ranges are rounded: the region ends at 4352
@@ -93,6 +94,7 @@ stops = record {
   zero-unaligned = refl;
   unaligned-nowhere = refl;
   unaligned-source = refl;
+  unaligned-not-writable = refl;
   not-writable = refl;
   not-readable = refl;
   rounded-destination = refl;

@@ -1,3 +1,6 @@
 pub mod CodeInjective
 pub mod Examples
 pub mod Looking
+pub mod WalkLaws
+pub mod LookHeader
+pub mod LookLaws

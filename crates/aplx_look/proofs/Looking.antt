@@ -7,7 +7,8 @@ use Rattle.outcome.specs.Outcome.{Stop, Ending, stops, outcome_at}
 use Rattle.outcome.specs.Destinations.{stored_in}
 use Rattle.memory_map.specs.Lookup.{Lookup}
 use Rattle.aplx_look.specs.Walk.{Walk, walk, commands}
-use Rattle.aplx_look.specs.Walk.Laws.{Passed, walk-passed, stop-count, length-commands}
+use Rattle.aplx_look.specs.Walk.Laws.{Passed}
+use Rattle.aplx_look.proofs.WalkLaws.{walk-passed, stop-count, length-commands}
 use Rattle.aplx_look.specs.Look.{destinations, header_test, look_of, look, outcome_of_look}
 
 -- the header address is h

@@ -1,23 +1,10 @@
--- Laws of the load: commands that may be performed, and the load with a sound map.
-use Rattle.std.specs.Prelude.{◌≡◌, true, List, ℕ, ◌%◌, length}
-use Rattle.memory_map.specs.declared.map.Map.{Map}
-use Rattle.memory_map.specs.Map.{sound}
-use Rattle.memory_map.specs.Lookup.{Lookup, lookup}
-use Rattle.aplx_command.specs.Command.{Command, command_at}
-use Rattle.aplx_look.specs.Walk.{goes, tests}
-use Rattle.aplx_look.specs.Look.{aplx_look}
+-- What the laws of the load say of commands that may be performed.
+use Rattle.std.specs.Prelude.{◌≡◌, ℕ, ◌%◌}
+use Rattle.memory_map.specs.Lookup.{Lookup}
+use Rattle.aplx_command.specs.Command.{Command}
 use Rattle.aplx_look.specs.Look.Header.{bytes_of}
-use Rattle.aplx_look.specs.Look.Laws.{Permitted, goes-permitted, whole_words}
-use Rattle.aplx.specs.Load.{load_with, aplx_load}
+use Rattle.aplx_look.specs.Look.Laws.{Permitted}
 
 -- the ranges of a command are permitted, and whole words
 abbrev pub Performable : Lookup → Command → Type 0
 Performable find c = Permitted find c × (bytes_of c % 4 ≡ 0)
-
-pub goes-performable :
-    (find : Lookup) (m : List ℕ) (a i p : ℕ) → tests find a i (command_at m p a) ≡ goes → Performable find (command_at m p a)
-goes-performable find m a i p e = (goes-permitted find a i (command_at m p a) e, whole_words m p a)
-
-pub sound-load : (map : Map) (m : List ℕ) (h : ℕ) → sound map (length m) ≡ true → aplx_load map m h ≡ load_with (lookup map) m h
-unfolding aplx_load load_with aplx_look
-sound-load map m h e = rw e

@@ -10,7 +10,7 @@ use Rattle.memory_map.specs.Lookup.{Lookup, lookup_in, lookup}
 use Rattle.memory_map.proofs.LookupLaws.{lookup-is}
 use Rattle.memory_map.specs.Open as MapGroup
 use Rattle.aplx.specs.Load.{load_with}
-use Rattle.aplx.specs.Load.Laws.{sound-load}
+use Rattle.aplx.proofs.LoadLaws.{sound-load}
 use Rattle.aplx.specs.Open as AplxGroup
 use Rattle.plan.specs.Plan.{fill}
 use Rattle.plan.specs.Meaning.{denies, meaning}

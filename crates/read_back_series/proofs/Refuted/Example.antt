@@ -8,7 +8,7 @@ use Rattle.outcome.specs.Outcome.{end, unknown, run, Ending, stops, refuses}
 use Rattle.memory_map.specs.Map.{sound}
 use Rattle.memory_map.specs.Lookup.{Lookup, lookup}
 use Rattle.aplx.specs.Load.{load_with}
-use Rattle.aplx.specs.Load.Laws.{sound-load}
+use Rattle.aplx.proofs.LoadLaws.{sound-load}
 use Rattle.plan.specs.Plan as format
 use Rattle.plan.specs.Plan.{Piece, put, fill, read_plan}
 use Rattle.plan.specs.Packed.{packs}

@@ -21,7 +21,7 @@ use Rattle.aplx_command.specs.Command.{Command}
 use Rattle.aplx_look.specs.Walk.{Walk, walk, commands}
 use Rattle.aplx_look.specs.Look.{tested, look}
 use Rattle.aplx.specs.Load.{perform_all, load_with}
-use Rattle.aplx.specs.Load.Laws.{sound-load}
+use Rattle.aplx.proofs.LoadLaws.{sound-load}
 use Rattle.series.specs.Series.{Left}
 use Rattle.series.specs.Medium.{aplx, ending_in, Misses, InMemory}
 use Rattle.series.specs.Software.{ours}

@@ -4,7 +4,7 @@ use Rattle.outcome.specs.Outcome.{outcome_of}
 use Rattle.outcome.proofs.OutcomeLaws.{refused-keeps, accepted-leaves}
 use Rattle.memory_map.specs.Lookup.{lookup}
 use Rattle.aplx_look.specs.Look.{aplx_look}
-use Rattle.aplx_look.specs.Look.Laws.{Accepted, accepted-look}
+use Rattle.aplx_look.proofs.LookLaws.{Accepted, accepted-look}
 use Rattle.aplx.specs.Load.{perform_all, aplx_load}
 use Rattle.aplx.proofs.load.load.Goals as goal
 use Rattle.aplx.proofs.load.load.Goals.{In-Accepted}

@@ -11,10 +11,11 @@ use Rattle.memory_map.specs.Lookup.{lookup, place_of}
 use Rattle.memory_map.proofs.LookupLaws.{lawful, found-place}
 use Rattle.aplx_command.specs.Command.{command_at}
 use Rattle.aplx_look.specs.Walk.{commands}
-use Rattle.aplx_look.specs.Walk.Laws.{Entry, goes-found}
+use Rattle.aplx_look.proofs.WalkLaws.{Entry, goes-found}
 use Rattle.aplx_look.specs.Look.{destinations, meets_header}
-use Rattle.aplx_look.specs.Look.Header.{bytes_of, header-met, header-on, header-end, bytes_on, bytes-end}
-use Rattle.aplx_look.specs.Look.Laws.{goes-bytes}
+use Rattle.aplx_look.specs.Look.Header.{bytes_of}
+use Rattle.aplx_look.proofs.LookHeader.{header-met, header-on, header-end, bytes_on, bytes-end}
+use Rattle.aplx_look.proofs.LookLaws.{goes-bytes}
 use Rattle.aplx_look.proofs.Looking.{outcome-tested}
 use Rattle.aplx_command.specs.Code.{command_is}
 use Rattle.aplx_look.proofs.header.check_header.Invariants.{command_there}

@@ -4,7 +4,7 @@ use native.Mathlib.Omega.{arith}
 use Prim.Native.Nat.{◌-◌}
 use lib.ListN.{length}
 use Rattle.aplx_look.specs.Code.{verdict_is}
-use Rattle.aplx_look.specs.Walk.Laws.{goes-found, walk-goes, walk-halts, walk-tired}
+use Rattle.aplx_look.proofs.WalkLaws.{goes-found, walk-goes, walk-halts, walk-tired}
 use Rattle.aplx_look.specs.Walk.{goes, judge, walk}
 use Rattle.memory_map.proofs.LookupLaws.{lawful}
 use Rattle.memory_map.specs.Lookup.{lookup}

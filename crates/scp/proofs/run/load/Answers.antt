@@ -3,7 +3,7 @@ use mathlib.Core.Path.{sym}
 use native.Mathlib.Omega.{arith}
 use borrow.Author.Tests.{lt-ltb, le-ltb}
 use lib.ListN.{length}
-use Rattle.aplx.specs.Load.Laws.{sound-load}
+use Rattle.aplx.proofs.LoadLaws.{sound-load}
 use Rattle.scp.proofs.AnswerLaws.{coded-answer}
 use Rattle.scp.specs.Answer.{load_packet}
 use Rattle.scp_packet.specs.Packet.{arg1}
