@@ -24,10 +24,20 @@ use Rattle.series.specs.Medium.{srom, aplx, start_of, Spares}
 use Rattle.series.specs.Software as software
 use Rattle.series.specs.Software.{Software}
 use Rattle.series.specs.Demand.{loads, Granted}
-use Rattle.series.proofs.Refuted.Example.{example, example-sound, find, finds, memory_with, Reads, Lies, srom-look, aplx-look}
+use Rattle.series.proofs.Refuted.Example.{example, example-sound, find, finds, memory_with, Reads, Lies}
 use Rattle.series.proofs.Refuted.Twice.{left_by}
 use Rattle.media_series.specs.Claims.{BothStep, aplx_steps, srom_steps, meant_result, result_of, result_at, Agree, AllAgree, EitherMedium}
 use Rattle.media_series.proofs.ClaimsLaws.{equal-self}
+
+-- our tests on a memory of 256 bytes, which compute
+module _ (m : List ℕ) (sized : length m ≡ 256) where
+  srom-look : (s : List ℕ) (o : ℕ) → srom_look example (length m) s o ≡ SromLoad.look find s o
+  unfolding srom_look
+  srom-look s o = rw (sized, example-sound, finds)
+
+  aplx-look : (h : ℕ) → aplx_look example m h ≡ look find m h
+  unfolding aplx_look
+  aplx-look h = rw (sized, example-sound, finds)
 
 -- ---- software made of two packers, and of what the two loaders do once our tests are made
 pub record Parts : Type 0 where
