@@ -20,7 +20,6 @@ there c =
     let s = c in
     next c.loop-i.invariant (lawful s.args.map (length s.args.memory.now) s.requires.0) s.requires.1 (omega arith)
 
-
 -- its command
 commanded : (c : After-command_at-command)
     → let l = c in
