@@ -1,10 +1,9 @@
 -- What the search for the end entry finds (paper 02, C-20): the first end word, or none where no entry has it.
-use Rattle.std.specs.Prelude.{◌≡◌, ℕ, zero, suc, ◌+◌, ◌*◌, ◌<◌, Bool, true, false, List, ◌==◌, ◌≢◌, nat_eq}
+use Rattle.std.specs.Prelude.{◌≡◌, ℕ, zero, suc, ◌+◌, ◌*◌, ◌<◌, Bool, true, false, List, ◌==◌, ◌≢◌, nat_eq, if◌then◌else◌}
 use Rattle.std.proofs.Math.Path.{refl}
 use Rattle.std.proofs.Common.{sym}
 use native.Mathlib.Omega.{arith}
 use borrow.Author.Tests.{eqb-true, eqb-false, ne_eqb}
-use Rattle.words.specs.Choice.{if◌then◌else◌}
 use Rattle.words.proofs.ChoiceLaws.{from-else}
 use Rattle.words.specs.Bytes.{little_endian_at}
 use Rattle.aplx_check.specs.Check.{at, none, first_end}

@@ -1,9 +1,9 @@
 -- Pieces in parts (paper 02, C-20), one part at a time as the check takes them: the parts of pieces are a first part of the first piece,
 -- and the parts of what is due behind it.
-use Rattle.std.specs.Prelude.{◌≡◌, ℕ, ◌<◌, Bool, true, false, List, [], ◌∷◌, ◌++◌, length, ◌==◌, refl}
+use Rattle.std.specs.Prelude.{◌≡◌, ℕ, ◌<◌, Bool, true, false, List, [], ◌∷◌, ◌++◌, length, ◌==◌, refl, if◌then◌else◌}
 use Rattle.std.proofs.Common.{ap, arith, eqb-true}
 use Rattle.std.proofs.lemmas.Bool.{eqb-false}
-use Rattle.words.specs.Choice.{if◌then◌else◌, All}
+use Rattle.words.specs.Choice.{All}
 use Rattle.plan.specs.Plan.{Piece, put, fill, run, address_of}
 use Rattle.plan.proofs.MeaningLaws.{Stores}
 use Rattle.aplx_check.specs.Parts.{size_of, first_part, rest_of, Part, FirstPart, Split, parts_of, SplitAll, parts}

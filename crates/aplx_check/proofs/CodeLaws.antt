@@ -1,8 +1,7 @@
 -- Laws for the code: plans that are refused, parts within their piece, and what is due, a step of the loop over the entries.
-use Rattle.std.specs.Prelude.{◌≡◌, ℕ, suc, ◌+◌, ◌-◌, ◌*◌, ◌<◌, ◌≤◌, Bool, true, false, List, ◌∷◌, length, get_or, take, drop, ◌==◌, slice_index_or, slice_range, refl}
+use Rattle.std.specs.Prelude.{◌≡◌, ℕ, suc, ◌+◌, ◌-◌, ◌*◌, ◌<◌, ◌≤◌, Bool, true, false, List, ◌∷◌, length, get_or, take, drop, ◌==◌, slice_index_or, slice_range, refl, if◌then◌else◌}
 use Rattle.std.proofs.Common.{ap, sym, ◌∙◌, add-zero, zero-add, add-one, arith, length-drop, length-take-le, get_or-drop, drop-cons, drop-drop, drop_at, take-add, eqb-true}
 use Rattle.std.proofs.lemmas.Bool.{eqb-false}
-use Rattle.words.specs.Choice.{if◌then◌else◌}
 use Rattle.words.proofs.ChoiceLaws.{four-hold}
 use Rattle.words.specs.Bytes.{little_endian_at}
 use Rattle.plan.specs.Plan.{Piece, put, fill, run, data_of, filled_by, Read, refused, pieces}

@@ -1,10 +1,9 @@
 -- Every refusal of the check has one of the three causes, and each cause is refused.
-use Rattle.std.specs.Prelude.{◌≡◌, ℕ, zero, suc, ◌+◌, ◌*◌, ◌≤◌, Bool, true, false, List, [], ◌∷◌, length}
+use Rattle.std.specs.Prelude.{◌≡◌, ℕ, zero, suc, ◌+◌, ◌*◌, ◌≤◌, Bool, true, false, List, [], ◌∷◌, length, if◌then◌else◌}
 use Rattle.std.proofs.Math.Path.{refl}
 use Rattle.std.proofs.Common.{sym, ◌∙◌, zero-add}
 use Rattle.std.proofs.Math.Nat.{add-zero}
 use native.Mathlib.Omega.{arith}
-use Rattle.words.specs.Choice.{if◌then◌else◌}
 use Rattle.words.proofs.ChoiceLaws.{true-is-false, fails}
 use Rattle.plan.specs.Plan.{Piece, Read, refused, pieces, read_plan}
 use Rattle.aplx_check.specs.Check.{refuses, is_due, part_length, due_after, check_entries, whole_entries, End, at, none, first_end, check_to, check_pieces, check_read, check}

@@ -1,6 +1,5 @@
 -- The check of an APLX image against a plan, entry by entry (paper 02, C-20). `Written.antt` has the rules by themselves.
-use Rattle.std.specs.Prelude.{ℕ, zero, suc, ◌+◌, ◌*◌, ◌/◌, ◌%◌, min, Bool, ◌&&◌, List, [], ◌∷◌, length, take, drop, ◌==◌, nat_le, nat_lt}
-use Rattle.words.specs.Choice.{if◌then◌else◌}
+use Rattle.std.specs.Prelude.{ℕ, zero, suc, ◌+◌, ◌*◌, ◌/◌, ◌%◌, min, Bool, ◌&&◌, List, [], ◌∷◌, length, take, drop, ◌==◌, nat_le, nat_lt, if◌then◌else◌}
 use Rattle.words.specs.Bytes.{little_endian_at}
 use Rattle.words.specs.Equal.{same}
 use Rattle.plan.specs.Plan.{Piece, put, fill, run, Read, refused, pieces, read_plan}

@@ -1,6 +1,5 @@
 -- What the values of the code's enums and structs say, in the terms of the definitions.
-use Rattle.std.specs.Prelude.{ℕ, ◌+◌, ◌==◌}
-use Rattle.words.specs.Choice.{if◌then◌else◌}
+use Rattle.std.specs.Prelude.{ℕ, ◌+◌, ◌==◌, if◌then◌else◌}
 use Rattle.plan.specs.Packed.{Accepted}
 use Rattle.aplx_check.specs.declared.check.Checked as CodeChecked
 use Rattle.aplx_check.specs.declared.check.Checked.TheVariants as answer

@@ -1,6 +1,5 @@
 -- The entries of an APLX header (paper 01, "APLX").
-use Rattle.std.specs.Prelude.{ℕ, ◌+◌, ◌%◌, List, ◌==◌}
-use Rattle.words.specs.Choice.{if◌then◌else◌}
+use Rattle.std.specs.Prelude.{ℕ, ◌+◌, ◌%◌, List, ◌==◌, if◌then◌else◌}
 use Rattle.words.specs.Bytes.{little_endian_at}
 use Rattle.words.specs.Round.{round_up}
 

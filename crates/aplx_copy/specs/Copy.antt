@@ -1,6 +1,5 @@
 -- The rule of one copy (paper 01, "APLX").
-use Rattle.std.specs.Prelude.{◌&&◌, List, ℕ, zero, suc, ◌+◌, ◌/◌, ◌≤◌, leb, length, take, drop}
-use Rattle.words.specs.Choice.{if◌then◌else◌}
+use Rattle.std.specs.Prelude.{◌&&◌, List, ℕ, zero, suc, ◌+◌, ◌/◌, ◌≤◌, leb, length, take, drop, if◌then◌else◌}
 use Rattle.words.specs.Store.{store}
 
 -- k words, one after the other, from place s to place d

@@ -1,11 +1,10 @@
 -- Laws of the bytes that commands store, and of the test for 8.
-use Rattle.std.specs.Prelude.{◌≡◌, refl, Bool, true, false}
+use Rattle.std.specs.Prelude.{◌≡◌, refl, Bool, true, false, if◌then◌else◌}
 use mathlib.Core.List.{List, [], ◌∷◌}
 use Prim.Native.Nat.{ℕ, zero, suc, ◌+◌, ◌-◌, ◌*◌, ◌≤◌, ◌<◌}
 use Rattle.std.proofs.Math.Nat.{add-zero}
 use Rattle.std.proofs.Math.Numerals.{add-one}
 use native.Mathlib.Omega.{arith}
-use Rattle.words.specs.Choice.{if◌then◌else◌}
 use Rattle.memory_region.specs.declared.region.Right.TheVariants.{Read}
 use Rattle.outcome.specs.Outcome.{Stop, Ending, stops, refuses}
 use Rattle.outcome.specs.Destinations.{stored_in}

@@ -1,7 +1,6 @@
 -- Laws of the look: what entries that passed their tests may do, and what an accepted load says.
-use Rattle.std.specs.Prelude.{◌≡◌, refl, Bool, true, false, not, List, [], ℕ, suc, ◌+◌, ◌*◌, ◌%◌, ◌≤◌, ◌<◌, eqb, length}
+use Rattle.std.specs.Prelude.{◌≡◌, refl, Bool, true, false, not, List, [], ℕ, suc, ◌+◌, ◌*◌, ◌%◌, ◌≤◌, ◌<◌, eqb, length, if◌then◌else◌}
 use Rattle.std.proofs.Common.{◌∙◌, arith, eqb-true}
-use Rattle.words.specs.Choice.{if◌then◌else◌}
 use Rattle.words.specs.Round.{round_up}
 use Rattle.words.proofs.RoundLaws.{round-multiple}
 use Rattle.words.specs.Bytes.{little_endian_at}

@@ -1,8 +1,7 @@
 -- What an APLX load answers (paper 01, "APLX"). Nothing is stored.
 pub mod Header
 pub mod Laws
-use Rattle.std.specs.Prelude.{Bool, false, ◌||◌, List, [], ◌∷◌, ◌++◌, ℕ, suc, ◌*◌, ◌%◌, eqb, length}
-use Rattle.words.specs.Choice.{if◌then◌else◌}
+use Rattle.std.specs.Prelude.{Bool, false, ◌||◌, List, [], ◌∷◌, ◌++◌, ℕ, suc, ◌*◌, ◌%◌, eqb, length, if◌then◌else◌}
 use Rattle.words.specs.Range.{meets}
 use Rattle.memory_map.specs.declared.map.Map.{Map}
 use Rattle.outcome.specs.Outcome.{Ending, stops, refuses, Outcome, outcome_at}

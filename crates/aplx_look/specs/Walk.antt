@@ -1,7 +1,6 @@
 -- The tests of the entries, one after the other up to the stop (paper 01, "APLX"). Nothing is stored.
 pub mod Laws
-use Rattle.std.specs.Prelude.{not, List, [], ◌∷◌, ℕ, zero, suc, ◌+◌, ◌%◌, eqb}
-use Rattle.words.specs.Choice.{if◌then◌else◌}
+use Rattle.std.specs.Prelude.{not, List, [], ◌∷◌, ℕ, zero, suc, ◌+◌, ◌%◌, eqb, if◌then◌else◌}
 use Rattle.memory_region.specs.declared.region.Right.TheVariants.{Read, Write}
 use Rattle.outcome.specs.Outcome.{end, unknown, run, Ending, stops, refuses}
 use Rattle.memory_map.specs.Lookup as map

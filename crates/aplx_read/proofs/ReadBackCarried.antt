@@ -1,10 +1,10 @@
 -- An image is read as pieces exactly if it carries them, each can be packed, and they are 64 at most.
-use Rattle.std.specs.Prelude.{◌≡◌, Bool, not, List, [], ◌∷◌, ℕ, zero, suc, ◌+◌, ◌*◌, ◌%◌, ◌≤◌, ◌<◌, ltb, leb, eqb}
+use Rattle.std.specs.Prelude.{◌≡◌, Bool, not, List, [], ◌∷◌, ℕ, zero, suc, ◌+◌, ◌*◌, ◌%◌, ◌≤◌, ◌<◌, ltb, leb, eqb, if◌then◌else◌}
 use Rattle.std.proofs.Math.Path.{refl, ap}
 use Rattle.std.proofs.Common.{sym, ◌∙◌, arith}
 use Rattle.std.proofs.Math.ListN.{length}
 use borrow.Author.Tests.{ltb-false, le-ltb, lt-leb, eqb-true, eq-eqb, ne_eqb}
-use Rattle.words.specs.Choice.{if◌then◌else◌, All}
+use Rattle.words.specs.Choice.{All}
 use Rattle.words.proofs.ChoiceLaws.{from-else, from_then, from_either}
 use Rattle.words.specs.Bytes.{little_endian_at, Bytes}
 use Rattle.plan.specs.Plan.{Piece, put, fill, run, Row, put_row, fill_row, run_row, piece_in, Read, refused, pieces}

@@ -1,9 +1,8 @@
 -- What an entry that is a piece shows: the image says the piece there, and the piece can be packed.
-use Rattle.std.specs.Prelude.{◌≡◌, refl, Bool, true, false, not, List, ℕ, ◌+◌, ◌*◌, ◌%◌, ◌≤◌, ◌<◌, ltb, leb, eqb, take, drop}
+use Rattle.std.specs.Prelude.{◌≡◌, refl, Bool, true, false, not, List, ℕ, ◌+◌, ◌*◌, ◌%◌, ◌≤◌, ◌<◌, ltb, leb, eqb, take, drop, if◌then◌else◌}
 use Rattle.std.proofs.Common.{sym, arith}
 use Rattle.std.proofs.Math.ListN.{length}
 use borrow.Author.Tests.{ltb-false, leb-false, eqb-true, eqb-false, not-false}
-use Rattle.words.specs.Choice.{if◌then◌else◌}
 use Rattle.words.proofs.ChoiceLaws.{from-else}
 use Rattle.words.specs.Bytes.{little_endian_at, Bytes}
 use Rattle.words.proofs.BytesLaws.{little-at-below}

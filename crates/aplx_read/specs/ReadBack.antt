@@ -1,6 +1,5 @@
 -- An APLX image read back as a plan (paper 02, C-11). The image is a slice with the header at offset 0; offsets are whole numbers.
-use Rattle.std.specs.Prelude.{not, List, [], ℕ, zero, suc, ◌+◌, ◌*◌, ◌%◌, ltb, leb, eqb, length}
-use Rattle.words.specs.Choice.{if◌then◌else◌}
+use Rattle.std.specs.Prelude.{not, List, [], ℕ, zero, suc, ◌+◌, ◌*◌, ◌%◌, ltb, leb, eqb, length, if◌then◌else◌}
 use Rattle.words.specs.Bytes.{little_endian_at}
 use Rattle.plan.specs.Plan.{Row, put_row, fill_row, run_row, piece_in, Read, refused, pieces, before}
 use Rattle.plan.specs.Packed.{Packed, packed_as}

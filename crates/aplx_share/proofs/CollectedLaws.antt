@@ -1,5 +1,5 @@
 -- Laws of the contents that the code keeps as places of the plan and lengths.
-use Rattle.std.specs.Prelude.{◌≡◌, refl, Bool, true, false, List, [], ◌∷◌, ◌++◌, ℕ, zero, suc, ◌+◌, ◌-◌, ◌≤◌, ◌<◌, eqb, length, take, drop, get_or, set}
+use Rattle.std.specs.Prelude.{◌≡◌, refl, Bool, true, false, List, [], ◌∷◌, ◌++◌, ℕ, zero, suc, ◌+◌, ◌-◌, ◌≤◌, ◌<◌, eqb, length, take, drop, get_or, set, if◌then◌else◌}
 use Rattle.std.proofs.Common.{ap, sym, ◌∙◌, add-zero, add-one, arith, length-set, length-take-le, get_or-take, get_or-drop, take-suc-set, get_or-set_same, get_or-set_other, eqb-true}
 use Rattle.plan.specs.declared.piece.Piece as CodePiece
 use Rattle.plan.specs.declared.piece.Piece.TheVariants.{Put}
@@ -12,7 +12,6 @@ use Rattle.plan.specs.Code.{piece_is}
 use Rattle.plan.specs.Code.Packer.{ReadAs}
 use Rattle.plan.proofs.CodeLaws.{Known, known_bytes, Found}
 use Rattle.std.proofs.lemmas.Bool.{eqb-false}
-use Rattle.words.specs.Choice.{if◌then◌else◌}
 use Rattle.words.proofs.ChoiceLaws.{all-at}
 use Rattle.aplx_share.specs.Contents.{contents, kept_contents, total_length}
 use Rattle.aplx_share.proofs.ContentsLaws.{total_length-contents, different-shorter}

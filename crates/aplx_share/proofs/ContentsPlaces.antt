@@ -1,11 +1,11 @@
 -- Laws of the place of a content among contents that stand one behind the other.
-use Rattle.std.specs.Prelude.{◌≡◌, refl, Bool, true, false, ℕ, suc, ◌+◌, ◌%◌, ◌≤◌, ◌<◌, length, take, get_or}
+use Rattle.std.specs.Prelude.{◌≡◌, refl, Bool, true, false, ℕ, suc, ◌+◌, ◌%◌, ◌≤◌, ◌<◌, length, take, get_or, if◌then◌else◌}
 use Rattle.std.proofs.Math.Path.{ap}
 use Rattle.std.proofs.Common.{sym, ◌∙◌, add-zero, add-one, arith, length-append, take_all, take_at}
 use mathlib.Core.List.{List, [], ◌∷◌, ◌++◌, append_assoc, append-nil}
 use Rattle.std.proofs.Math.ListN.{drop}
 use Rattle.std.proofs.Math.Seq.{take-suc, split_at, drop-append-add}
-use Rattle.words.specs.Choice.{if◌then◌else◌, All}
+use Rattle.words.specs.Choice.{All}
 use Rattle.words.proofs.ChoiceLaws.{true-is-false, fails}
 use Rattle.words.specs.Equal.{same}
 use Rattle.words.proofs.EqualLaws.{same-equal, equal-same}

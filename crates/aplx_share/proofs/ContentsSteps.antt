@@ -1,7 +1,6 @@
 -- Laws of contents one more at a time: one that is among them changes nothing, and a new one comes behind all others.
-use Rattle.std.specs.Prelude.{◌≡◌, refl, Bool, true, false, List, [], ◌∷◌, ◌++◌, ℕ, ◌+◌, ◌≤◌, ◌<◌, length, take, drop, get_or}
+use Rattle.std.specs.Prelude.{◌≡◌, refl, Bool, true, false, List, [], ◌∷◌, ◌++◌, ℕ, ◌+◌, ◌≤◌, ◌<◌, length, take, drop, get_or, if◌then◌else◌}
 use Rattle.std.proofs.Common.{ap, sym, ◌∙◌, append_assoc, append-nil, add-one, arith, length-append, take-append-drop, take-suc}
-use Rattle.words.specs.Choice.{if◌then◌else◌}
 use Rattle.words.specs.Equal.{same}
 use Rattle.words.proofs.EqualLaws.{same-swap}
 use Rattle.plan.specs.Plan.{Piece, put, fill, run}

@@ -1,6 +1,5 @@
 -- The contents of a plan's puts, and which of them are kept where equal ones are kept once (paper 02, C-23).
-use Rattle.std.specs.Prelude.{◌≡◌, Bool, true, false, List, [], ◌∷◌, ◌++◌, ℕ, ◌+◌, length}
-use Rattle.words.specs.Choice.{if◌then◌else◌}
+use Rattle.std.specs.Prelude.{◌≡◌, Bool, true, false, List, [], ◌∷◌, ◌++◌, ℕ, ◌+◌, length, if◌then◌else◌}
 use Rattle.words.specs.Equal.{same}
 use Rattle.plan.specs.Plan.{Piece, put, fill, run}
 

@@ -1,8 +1,7 @@
 -- Laws of what is read and answered, a step of the code at a time.
-use Rattle.std.specs.Prelude.{◌≡◌, Bool, true, false, List, [], ◌∷◌, ℕ, ◌+◌, ◌*◌, ◌≤◌, ◌<◌, ltb, length}
+use Rattle.std.specs.Prelude.{◌≡◌, Bool, true, false, List, [], ◌∷◌, ℕ, ◌+◌, ◌*◌, ◌≤◌, ◌<◌, ltb, length, if◌then◌else◌}
 use Rattle.std.proofs.Math.Path.{refl}
 use Rattle.std.proofs.Common.{ap, zero-add, add-zero, arith, lt-ltb, le-ltb, ltb-false}
-use Rattle.words.specs.Choice.{if◌then◌else◌}
 use Rattle.plan.specs.declared.piece.Piece as CodePiece
 use Rattle.plan.specs.declared.piece.Piece.TheVariants as code
 use Rattle.plan.specs.Plan.{Piece, Read, refused, pieces, before}

@@ -1,6 +1,5 @@
 -- Two plans compared (paper 02, C-18).
-use Rattle.std.specs.Prelude.{Bool, List, [], ◌∷◌, ◌++◌, ℕ, ◌*◌, ltb, length}
-use Rattle.words.specs.Choice.{if◌then◌else◌}
+use Rattle.std.specs.Prelude.{Bool, List, [], ◌∷◌, ◌++◌, ℕ, ◌*◌, ltb, length, if◌then◌else◌}
 use Rattle.words.specs.Four.{four_bytes}
 use Rattle.words.specs.Store.{store}
 use Rattle.plan.specs.Plan.{Piece, Read, refused, pieces}

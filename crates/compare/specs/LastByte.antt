@@ -2,8 +2,7 @@
 pub mod Laws
 pub mod Segment
 pub mod Exact
-use Rattle.std.specs.Prelude.{Bool, ◌&&◌, List, [], ◌∷◌, ℕ, ◌+◌, ◌-◌, leb, ltb, length, get_or}
-use Rattle.words.specs.Choice.{if◌then◌else◌}
+use Rattle.std.specs.Prelude.{Bool, ◌&&◌, List, [], ◌∷◌, ℕ, ◌+◌, ◌-◌, leb, ltb, length, get_or, if◌then◌else◌}
 use Rattle.plan.specs.Plan.{Piece, address_of}
 use Rattle.plan.specs.Meaning.{stored_by}
 

@@ -1,7 +1,6 @@
 -- Which plans can be compared, and what of them is (paper 02, C-18).
 pub mod Stretch
-use Rattle.std.specs.Prelude.{Bool, true, false, List, [], ◌∷◌, ℕ, zero, suc, ◌+◌, ◌≤◌, ltb, eqb, length}
-use Rattle.words.specs.Choice.{if◌then◌else◌}
+use Rattle.std.specs.Prelude.{Bool, true, false, List, [], ◌∷◌, ℕ, zero, suc, ◌+◌, ◌≤◌, ltb, eqb, length, if◌then◌else◌}
 use Rattle.plan.specs.Plan.{Piece, put, fill, run, Row, put_row, fill_row, run_row, Judged, good, bad, piece_at, Read, pieces, next, judge_header, headed}
 
 -- the number of addresses; the last one is 4,294,967,295

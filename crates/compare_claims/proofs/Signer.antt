@@ -1,7 +1,6 @@
 -- What someone who signs a plan asks of the comparison. Each law says what it holds of; its proof needs no reading.
-use Rattle.std.specs.Prelude.{◌≡◌, refl, Bool, true, false, not, List, [], ℕ, ◌*◌, ◌≤◌, ◌<◌, ltb, length}
+use Rattle.std.specs.Prelude.{◌≡◌, refl, Bool, true, false, not, List, [], ℕ, ◌*◌, ◌≤◌, ◌<◌, ltb, length, if◌then◌else◌}
 use Rattle.std.proofs.Common.{ap, sym, ◌∙◌, arith, ltb-true, ltb-false, lt-ltb, le-ltb, eqb-true, eq-eqb}
-use Rattle.words.specs.Choice.{if◌then◌else◌}
 use Rattle.words.proofs.ChoiceLaws.{true-is-false, from_then}
 use Rattle.words.specs.Bytes.{Bytes}
 use Rattle.memory_map.specs.declared.map.Map.{Map}

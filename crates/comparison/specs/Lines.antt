@@ -1,8 +1,7 @@
 -- What the program `compare_plans` writes for the files `old` and `new` (paper 02, C-18).
 pub mod Laws
 pub mod Stretches
-use Rattle.std.specs.Prelude.{Bool, true, false, List, [], ◌∷◌, ◌++◌, ℕ, ltb, eqb, length}
-use Rattle.words.specs.Choice.{if◌then◌else◌}
+use Rattle.std.specs.Prelude.{Bool, true, false, List, [], ◌∷◌, ◌++◌, ℕ, ltb, eqb, length, if◌then◌else◌}
 use Rattle.text.specs.Hex.{hex}
 use Rattle.text.specs.Refusal.{refusal_line}
 use Rattle.plan.specs.Plan.{Read, refused}

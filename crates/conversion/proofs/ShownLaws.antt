@@ -1,7 +1,6 @@
 -- Laws of what is shown, the same for every conversion: bytes that fit, or a line.
-use Rattle.std.specs.Prelude.{◌≡◌, refl, Bool, true, false, List, [], ℕ, ◌≤◌, leb, length}
+use Rattle.std.specs.Prelude.{◌≡◌, refl, Bool, true, false, List, [], ℕ, ◌≤◌, leb, length, if◌then◌else◌}
 use Rattle.std.proofs.Common.{arith, le-leb, leb-true}
-use Rattle.words.specs.Choice.{if◌then◌else◌}
 use Rattle.words.specs.Store.{store}
 use Rattle.plan.specs.Packed.{Packed, refuses, packs, output_after, Outcome, outcome_of}
 use Rattle.text.specs.Refusal.{refusal_line, fitting}

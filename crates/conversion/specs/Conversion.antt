@@ -1,7 +1,6 @@
 -- What the programs `plan_to_aplx`, `plan_to_shared_aplx` and `plan_to_srom` write for the plan that they read.
-use Rattle.std.specs.Prelude.{◌≡◌, List, ℕ, ◌≤◌, Option, ltb, length}
+use Rattle.std.specs.Prelude.{◌≡◌, List, ℕ, ◌≤◌, Option, ltb, length, if◌then◌else◌}
 use Rattle.std.specs.Io.KnownBytes.{Consumes}
-use Rattle.words.specs.Choice.{if◌then◌else◌}
 use Rattle.words.specs.Store.{store}
 use Rattle.plan.specs.Packed.{Packed}
 use Rattle.aplx_pack.specs.Image.{pack_aplx}

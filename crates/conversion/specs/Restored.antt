@@ -2,10 +2,9 @@
 -- to 32,768 bytes (a longer plan is refusal 10, place the piece count), so that what it writes can be packed and compared. A refused image
 -- gives only the line `refused N at P` and a newline. An input longer than 65,536 bytes gets one line on standard error and nothing on
 -- standard output, since no number of the table is its cause.
-use Rattle.std.specs.Prelude.{◌≡◌, List, ℕ, ◌≤◌, Option, ltb, length}
+use Rattle.std.specs.Prelude.{◌≡◌, List, ℕ, ◌≤◌, Option, ltb, length, if◌then◌else◌}
 use Rattle.std.specs.Io.KnownBytes.{Consumes}
 use Rattle.file_bytes.specs.Counts.{IsPrefixLen}
-use Rattle.words.specs.Choice.{if◌then◌else◌}
 use Rattle.words.specs.Store.{store}
 use Rattle.aplx_read.specs.ReadBack.{read_back}
 use Rattle.text.specs.Refusal.{fitting}

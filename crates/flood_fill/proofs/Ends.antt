@@ -1,10 +1,10 @@
 -- How a message ends, by its tests.
+use Rattle.std.specs.Prelude.{if◌then◌else◌}
 use mathlib.Core.Path.{◌≡◌}
 use mathlib.Core.Bool.{Bool, not, ◌&&◌}
 use mathlib.Core.List.{List}
 use Prim.Native.Nat.{ℕ}
 use lib.ListN.{take}
-use Rattle.words.specs.Choice.{if◌then◌else◌}
 use Rattle.flood_fill.specs.declared.receiver.Receiver.{Receiver}
 use Rattle.flood_fill.specs.Refusals.{is_wanted}
 use Rattle.flood_fill.specs.Answer.{accepted, ignored}

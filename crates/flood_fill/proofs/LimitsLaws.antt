@@ -1,7 +1,6 @@
 -- What the limits of a Start grant, and what a right size does.
-use Rattle.std.specs.Prelude.{◌≡◌, Bool, true, false, ◌&&◌, ℕ, suc, ◌*◌, ◌≤◌, leb, eqb}
+use Rattle.std.specs.Prelude.{◌≡◌, Bool, true, false, ◌&&◌, ℕ, suc, ◌*◌, ◌≤◌, leb, eqb, if◌then◌else◌}
 use Rattle.std.proofs.Common.{arith, leb-true, eqb-true}
-use Rattle.words.specs.Choice.{if◌then◌else◌}
 use Rattle.words.proofs.ChoiceLaws.{both}
 use Rattle.flood_fill.specs.Limits.{within_limits, right_size}
 

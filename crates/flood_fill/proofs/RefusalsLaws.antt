@@ -1,7 +1,6 @@
 -- Laws of the tests: by the image, and what a message that passed them grants.
-use Rattle.std.specs.Prelude.{◌≡◌, refl, Bool, true, false, ℕ, suc, ◌≤◌, ◌<◌, leb, eqb}
+use Rattle.std.specs.Prelude.{◌≡◌, refl, Bool, true, false, ℕ, suc, ◌≤◌, ◌<◌, leb, eqb, if◌then◌else◌}
 use Rattle.std.proofs.Common.{arith, leb-false}
-use Rattle.words.specs.Choice.{if◌then◌else◌}
 use Rattle.flood_fill.specs.declared.message.Message.{Message}
 use Rattle.flood_fill.specs.declared.header.Header.{Header}
 use Rattle.flood_fill.specs.declared.test.Tested.TheVariants.{Refused, Passed}

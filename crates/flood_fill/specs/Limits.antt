@@ -1,6 +1,5 @@
 -- What a Start may declare, and the sizes of its blocks (paper 02, C-14).
-use Rattle.std.specs.Prelude.{Bool, ◌&&◌, ℕ, suc, ◌*◌, leb, eqb}
-use Rattle.words.specs.Choice.{if◌then◌else◌}
+use Rattle.std.specs.Prelude.{Bool, ◌&&◌, ℕ, suc, ◌*◌, leb, eqb, if◌then◌else◌}
 
 -- "the block count less 1 (1 to 256 blocks) and the block size, 1 to 256 words, count times size at most 8,192"
 abbrev pub within_limits : ℕ → ℕ → Bool

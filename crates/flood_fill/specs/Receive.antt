@@ -1,6 +1,5 @@
 -- What a message does to the receiver and to the lent image, and what it is answered (paper 02, C-14).
-use Rattle.std.specs.Prelude.{◌≡◌, Bool, true, false, not, ◌&&◌, List, [], ◌∷◌, ◌++◌, ℕ, suc, ◌*◌, ltb, length, take, get_or, set, replicate}
-use Rattle.words.specs.Choice.{if◌then◌else◌}
+use Rattle.std.specs.Prelude.{◌≡◌, Bool, true, false, not, ◌&&◌, List, [], ◌∷◌, ◌++◌, ℕ, suc, ◌*◌, ltb, length, take, get_or, set, replicate, if◌then◌else◌}
 use Rattle.words.specs.Bytes.{little_endian}
 use Rattle.words.specs.Store.{store_if_fits}
 use Rattle.flood_fill.specs.declared.message.Message.{Message}

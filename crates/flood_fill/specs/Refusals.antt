@@ -1,6 +1,5 @@
 -- The tests of a message (paper 02, C-14): "Tested before all that, in this order, refused with 24 to 29 and changing nothing".
-use Rattle.std.specs.Prelude.{Bool, false, ◌&&◌, ℕ, suc, ◌*◌, ltb, leb, eqb}
-use Rattle.words.specs.Choice.{if◌then◌else◌}
+use Rattle.std.specs.Prelude.{Bool, false, ◌&&◌, ℕ, suc, ◌*◌, ltb, leb, eqb, if◌then◌else◌}
 use Rattle.flood_fill.specs.declared.message.Message.{Message}
 use Rattle.flood_fill.specs.declared.message.Message.TheVariants.{Start, BlockStart, BlockData, BlockEnd}
 use Rattle.flood_fill.specs.declared.header.Opened.{Opened}

@@ -1,7 +1,6 @@
 -- A map as a table of bytes that the caller lends: 132 bytes, Little Endian words. Word 0 is the count of regions; behind it stand eight
 -- regions of four words each, base, length, place and rights.
-use Rattle.std.specs.Prelude.{Bool, true, false, not, List, [], ◌∷◌, ◌++◌, ℕ, zero, suc, ◌+◌, ◌/◌, ◌%◌, ltb, eqb, length, replicate}
-use Rattle.words.specs.Choice.{if◌then◌else◌}
+use Rattle.std.specs.Prelude.{Bool, true, false, not, List, [], ◌∷◌, ◌++◌, ℕ, zero, suc, ◌+◌, ◌/◌, ◌%◌, ltb, eqb, length, replicate, if◌then◌else◌}
 use Rattle.words.specs.Bytes.{little_endian, little_endian_at}
 use Rattle.words.specs.Four.{four_bytes}
 use Rattle.memory_region.specs.declared.region.Rights.{Rights}

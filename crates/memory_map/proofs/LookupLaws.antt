@@ -1,7 +1,6 @@
 -- Laws of lookup: how it is computed, the region of a found range, and what holds of every lookup of a sound map.
-use Rattle.std.specs.Prelude.{◌≡◌, refl, Bool, true, false, List, [], ◌∷◌, ◌⊎◌, ℕ, ◌+◌, ◌-◌, ◌≤◌, ◌<◌}
+use Rattle.std.specs.Prelude.{◌≡◌, refl, Bool, true, false, List, [], ◌∷◌, ◌⊎◌, ℕ, ◌+◌, ◌-◌, ◌≤◌, ◌<◌, if◌then◌else◌}
 use Rattle.std.proofs.Common.{sym, ◌∙◌, ap, inl, inr, arith}
-use Rattle.words.specs.Choice.{if◌then◌else◌}
 use Rattle.words.proofs.ChoiceLaws.{true-is-false}
 use Rattle.words.specs.Range.{meets}
 use Rattle.words.proofs.RangeLaws.{apart_none, Shared, meets-shared, shared-meets}

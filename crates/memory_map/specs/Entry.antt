@@ -1,6 +1,5 @@
 -- Run addresses (paper 01, "Memory map", third paragraph).
-use Rattle.std.specs.Prelude.{Bool, false, ℕ, ◌-◌, ◌%◌, eqb}
-use Rattle.words.specs.Choice.{if◌then◌else◌}
+use Rattle.std.specs.Prelude.{Bool, false, ℕ, ◌-◌, ◌%◌, eqb, if◌then◌else◌}
 use Rattle.memory_region.specs.declared.region.Right.TheVariants.{Run}
 use Rattle.memory_map.specs.declared.map.RunEntry as CodeEntry
 use Rattle.memory_map.specs.declared.map.RunEntry.TheVariants.{Legal, Refused}

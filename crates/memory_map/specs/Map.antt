@@ -1,7 +1,7 @@
 -- The map (paper 01, "Memory map").
 pub mod Ascending
-use Rattle.std.specs.Prelude.{Bool, true, false, ◌&&◌, List, [], ◌∷◌, ℕ, ◌+◌, leb, take, set, get_or, replicate}
-use Rattle.words.specs.Choice.{if◌then◌else◌, every}
+use Rattle.std.specs.Prelude.{Bool, true, false, ◌&&◌, List, [], ◌∷◌, ℕ, ◌+◌, leb, take, set, get_or, replicate, if◌then◌else◌}
+use Rattle.words.specs.Choice.{every}
 use Rattle.memory_region.specs.declared.region.Region.{Region}
 use Rattle.memory_map.specs.declared.map.Map.{Map}
 use Rattle.memory_map.specs.declared.map.Verdict as CodeVerdict

@@ -1,6 +1,6 @@
 // Up to eight regions over one lent buffer.
-ghost use Rattle.std.specs.Prelude.{◌≡◌, ◌+◌, ◌<◌, ◌≤◌, length};
-ghost use Rattle.words.specs.Choice.{if◌then◌else◌, every};
+ghost use Rattle.std.specs.Prelude.{◌≡◌, ◌+◌, ◌<◌, ◌≤◌, length, if◌then◌else◌};
+ghost use Rattle.words.specs.Choice.{every};
 ghost use Rattle.memory_region.specs.Region.{ends_inside};
 ghost use Rattle.memory_map.specs.Map.Ascending.{ascending};
 ghost use Rattle.memory_map.specs.Map.{regions_of, all_keep_rules, empty_map, well_formed, sound, refused, add, addition_of};

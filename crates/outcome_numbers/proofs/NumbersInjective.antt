@@ -1,7 +1,6 @@
 -- The numbers decide the outcome: two outcomes of one call with the same eight numbers are the same. Each is given back by its numbers.
-use Rattle.std.specs.Prelude.{◌≡◌, refl, true, false, List, ℕ, eqb, get_or}
+use Rattle.std.specs.Prelude.{◌≡◌, refl, true, false, List, ℕ, eqb, get_or, if◌then◌else◌}
 use Rattle.std.proofs.Common.{sym, ap, ◌∙◌}
-use Rattle.words.specs.Choice.{if◌then◌else◌}
 use Rattle.outcome.specs.Outcome as load
 use Rattle.outcome.specs.Outcome.{Kind, arm, thumb, end, unknown, run}
 use Rattle.plan.specs.Code as read

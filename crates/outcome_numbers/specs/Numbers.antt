@@ -1,7 +1,6 @@
 -- Outcomes as eight numbers, for a caller that takes no enum: one layout for every call. What a case does not name is 0.
 pub mod Laws
-use Rattle.std.specs.Prelude.{Bool, true, false, List, [], ◌∷◌, ℕ, ◌*◌, eqb, get_or}
-use Rattle.words.specs.Choice.{if◌then◌else◌}
+use Rattle.std.specs.Prelude.{Bool, true, false, List, [], ◌∷◌, ℕ, ◌*◌, eqb, get_or, if◌then◌else◌}
 use Rattle.outcome.specs.Outcome as load
 use Rattle.outcome.specs.Outcome.{Kind, arm, thumb, end, unknown, run}
 use Rattle.plan.specs.Code as read

@@ -1,8 +1,7 @@
 -- A value of the code can be read back from what it says. So two that say the same are the same, and an equation of what an answer says
 -- decides it.
-use Rattle.std.specs.Prelude.{◌≡◌, refl, ℕ, eqb}
+use Rattle.std.specs.Prelude.{◌≡◌, refl, ℕ, eqb, if◌then◌else◌}
 use Rattle.std.proofs.Common.{ap}
-use Rattle.words.specs.Choice.{if◌then◌else◌}
 use Rattle.outcome.proofs.OutcomeInjective.{back-injective, refusal_back}
 use Rattle.plan.specs.declared.piece.Target.{Target}
 use Rattle.plan.specs.declared.piece.Target.TheVariants.{Aplx, Srom, Any}

@@ -1,10 +1,10 @@
 -- The meaning of a stretch in the words of the demand: where it ends, where it runs, and what refuses it.
-use Rattle.std.specs.Prelude.{◌≡◌, refl, Bool, true, false, ℕ, suc, ◌+◌, drop}
+use Rattle.std.specs.Prelude.{◌≡◌, refl, Bool, true, false, ℕ, suc, ◌+◌, drop, if◌then◌else◌}
 use Rattle.std.proofs.Common.{◌∙◌, suc-add, arith}
 use mathlib.Core.List.{List, [], ◌∷◌, ◌++◌}
 use Rattle.std.proofs.Math.Nat.{add-zero, add-suc}
 use Rattle.std.proofs.Math.ListN.{length}
-use Rattle.words.specs.Choice.{All, if◌then◌else◌}
+use Rattle.words.specs.Choice.{All}
 use Rattle.memory_region.specs.declared.region.Right.TheVariants.{Write}
 use Rattle.memory_map.specs.Lookup as map
 use Rattle.memory_map.specs.Lookup.{Lookup, Found, place_of}

@@ -1,7 +1,6 @@
 -- Laws of packing, over the image: what an accepted plan says, and what is accepted.
-use Rattle.std.specs.Prelude.{◌≡◌, refl, Bool, true, false, List, ℕ, ◌≤◌, ltb, length}
+use Rattle.std.specs.Prelude.{◌≡◌, refl, Bool, true, false, List, ℕ, ◌≤◌, ltb, length, if◌then◌else◌}
 use Rattle.std.proofs.Common.{sym, arith, ltb-false, le-ltb}
-use Rattle.words.specs.Choice.{if◌then◌else◌}
 use Rattle.plan.specs.Plan.{Piece, Read, refused, pieces}
 use Rattle.plan.specs.Packed.{refuses, packs, packed_as}
 

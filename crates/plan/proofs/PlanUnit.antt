@@ -1,8 +1,7 @@
 -- A plan that is read with a unit is read with a unit of 1, which tests no length, and its pieces are the same.
-use Rattle.std.specs.Prelude.{◌≡◌, Bool, true, false, not, List, ltb, eqb}
+use Rattle.std.specs.Prelude.{◌≡◌, Bool, true, false, not, List, ltb, eqb, if◌then◌else◌}
 use Rattle.std.proofs.Common.{ap, sym, arith, eq-eqb}
 use Prim.Native.Nat.{ℕ, zero, suc, ◌+◌, ◌*◌, ◌%◌}
-use Rattle.words.specs.Choice.{if◌then◌else◌}
 use Rattle.words.specs.Bytes.{little_endian_at}
 use Rattle.plan.specs.Plan.{Piece, count_of, table_of, data_length, Row, Judged, good, bad, judge_fill, judge_data, judge_put, judge_kind, judge_at, piece_at, pieces, read_pieces, read_plan}
 use Rattle.plan.proofs.PlanSteps.{bad-no-good, first_read}

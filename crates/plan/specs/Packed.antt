@@ -1,6 +1,5 @@
 -- What packing a plan gives (paper 01, "Plans"), and in the same terms what reading an image back gives (paper 02, C-11).
-use Rattle.std.specs.Prelude.{◌≡◌, List, [], ℕ, ltb, length}
-use Rattle.words.specs.Choice.{if◌then◌else◌}
+use Rattle.std.specs.Prelude.{◌≡◌, List, [], ℕ, ltb, length, if◌then◌else◌}
 use Rattle.words.specs.Store.{store}
 use Rattle.plan.specs.Plan.{Piece, Read, refused, pieces, read_plan}
 

@@ -1,6 +1,5 @@
 -- The format of a plan and its reader (paper 01, "Plans"). Offsets and sums are whole numbers.
-use Rattle.std.specs.Prelude.{not, ◌&&◌, List, [], ◌∷◌, ◌++◌, ℕ, zero, suc, ◌+◌, ◌*◌, ◌%◌, ltb, eqb, length, take, drop}
-use Rattle.words.specs.Choice.{if◌then◌else◌}
+use Rattle.std.specs.Prelude.{not, ◌&&◌, List, [], ◌∷◌, ◌++◌, ℕ, zero, suc, ◌+◌, ◌*◌, ◌%◌, ltb, eqb, length, take, drop, if◌then◌else◌}
 use Rattle.words.specs.Bytes.{little_endian_at}
 
 -- "A piece: kind (1 put, 2 fill, 3 run)"

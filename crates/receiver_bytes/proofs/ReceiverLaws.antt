@@ -1,11 +1,10 @@
 -- Messages to the bytes of a receiver are messages to the receiver that they are (`receive`): what a message leaves of the bytes is the
 -- receiver that it leaves, in 1,544 bytes again. All zeros are the empty receiver.
-use Rattle.std.specs.Prelude.{◌≡◌, true, false, ◌&&◌, List, ℕ, suc, ◌^◌, ◌<◌, ltb, length, take, replicate}
+use Rattle.std.specs.Prelude.{◌≡◌, true, false, ◌&&◌, List, ℕ, suc, ◌^◌, ◌<◌, ltb, length, take, replicate, if◌then◌else◌}
 use Rattle.std.proofs.Math.Path.{refl}
 use Rattle.std.proofs.Math.Bool.{Bool, not}
 use Rattle.std.proofs.Common.{arith}
 use Rattle.std.proofs.lemmas.Bool.{not-true}
-use Rattle.words.specs.Choice.{if◌then◌else◌}
 use Rattle.words.proofs.ChoiceLaws.{both}
 use Rattle.words.specs.Bytes.{little_endian}
 use Rattle.words.proofs.BytesLaws.{little-at-below}

@@ -1,5 +1,5 @@
 -- What the bytes are after a message that was done: the receiver that it leaves, in 1,544 bytes again.
-use Rattle.std.specs.Prelude.{◌≡◌, Bool, List, [], ◌∷◌, ◌++◌, ℕ, zero, suc, ◌+◌, ◌*◌, ◌^◌, ◌≤◌, ◌<◌, take, drop}
+use Rattle.std.specs.Prelude.{◌≡◌, Bool, List, [], ◌∷◌, ◌++◌, ℕ, zero, suc, ◌+◌, ◌*◌, ◌^◌, ◌≤◌, ◌<◌, take, drop, if◌then◌else◌}
 use Rattle.std.proofs.Math.Path.{refl, ap}
 use Rattle.std.proofs.Common.{sym, ◌∙◌, arith, length-append, length-take}
 use Rattle.std.proofs.Math.Bool.{true, false}
@@ -8,7 +8,6 @@ use Rattle.std.proofs.Math.ListN.{length, set, replicate}
 use Rattle.std.proofs.lemmas.List.{length-replicate}
 use Rattle.std.proofs.Math.Seq.{set_out}
 use borrow.Author.Tests.{ltb-true, ltb-false, ne_eqb}
-use Rattle.words.specs.Choice.{if◌then◌else◌}
 use Rattle.words.proofs.ChoiceLaws.{all_append}
 use Rattle.words.specs.Bytes.{little_endian, little_endian_at, from_little_endian, first_bytes, Bytes}
 use Rattle.words.proofs.BytesLaws.{length-little_endian, bytes-of, little-at-front, little-at-behind}

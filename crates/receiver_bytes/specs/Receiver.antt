@@ -1,8 +1,7 @@
 -- A flood-fill receiver as 1,544 bytes that the caller lends, and what a message leaves of them. Numbers are Little Endian. From offset 0 on:
 -- the count of blocks, the full size of a block, the ID of the open block and its own size, 2 bytes each; from 8 on a byte for each of
 -- 256 blocks, done unless 0; from 264 on a byte for each of 256 words of the open block, come unless 0; from 520 on these words.
-use Rattle.std.specs.Prelude.{Bool, not, List, [], ◌∷◌, ◌++◌, ℕ, zero, suc, ◌+◌, ◌*◌, ltb, eqb, take, drop, set, replicate}
-use Rattle.words.specs.Choice.{if◌then◌else◌}
+use Rattle.std.specs.Prelude.{Bool, not, List, [], ◌∷◌, ◌++◌, ℕ, zero, suc, ◌+◌, ◌*◌, ltb, eqb, take, drop, set, replicate, if◌then◌else◌}
 use Rattle.words.specs.Bytes.{little_endian, little_endian_at}
 use Rattle.words.specs.Store.{store}
 use Rattle.flood_fill.specs.declared.message.Message.{Message}

@@ -1,8 +1,7 @@
 -- What each call of the library gives: the definitions of the loaders, the answerer, the readers, the packers and the flood-fill receiver,
 -- with the map of a table and with numbers for what is no number.
 pub mod Comparison
-use Rattle.std.specs.Prelude.{Bool, true, false, List, [], ℕ, ◌%◌, eqb, length, get_or}
-use Rattle.words.specs.Choice.{if◌then◌else◌}
+use Rattle.std.specs.Prelude.{Bool, true, false, List, [], ℕ, ◌%◌, eqb, length, get_or, if◌then◌else◌}
 use Rattle.outcome.specs.Outcome.{Loaded}
 use Rattle.memory_map.specs.Map.{Verdict, taken, refused, sound}
 use Rattle.srom.specs.Load.{srom_load}

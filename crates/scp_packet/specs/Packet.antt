@@ -1,6 +1,5 @@
 -- The numbers of a packet, and the return codes (paper 01, "SCP").
-use Rattle.std.specs.Prelude.{Bool, true, List, ℕ, ◌%◌, eqb, drop}
-use Rattle.words.specs.Choice.{if◌then◌else◌}
+use Rattle.std.specs.Prelude.{Bool, true, List, ℕ, ◌%◌, eqb, drop, if◌then◌else◌}
 use Rattle.words.specs.Bytes.{little_endian_at}
 
 -- "Packet: cmd_rc and seq (16 bits each), arg1 to arg3 (32 bits), data, Little Endian."

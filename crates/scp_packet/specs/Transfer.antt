@@ -1,6 +1,5 @@
 -- The tests of READ and WRITE packets that need no map (paper 01, "SCP").
-use Rattle.std.specs.Prelude.{Bool, not, ◌&&◌, ◌||◌, List, ℕ, ◌+◌, ltb, eqb, length}
-use Rattle.words.specs.Choice.{if◌then◌else◌}
+use Rattle.std.specs.Prelude.{Bool, not, ◌&&◌, ◌||◌, List, ℕ, ◌+◌, ltb, eqb, length, if◌then◌else◌}
 use Rattle.scp_packet.specs.Packet.{arg1, arg2, arg3, OK, LEN, ARG, aligned}
 
 abbrev pub too_large : List ℕ → Bool

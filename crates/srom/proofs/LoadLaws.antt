@@ -1,7 +1,6 @@
 -- Laws of the load: what an accepted look says, and what a load with a sound map is.
-use Rattle.std.specs.Prelude.{◌≡◌, refl, Bool, true, false, List, [], ℕ, ◌≤◌, ltb, length}
+use Rattle.std.specs.Prelude.{◌≡◌, refl, Bool, true, false, List, [], ℕ, ◌≤◌, ltb, length, if◌then◌else◌}
 use Rattle.std.proofs.Common.{arith, ltb-false}
-use Rattle.words.specs.Choice.{if◌then◌else◌}
 use Rattle.memory_map.specs.declared.map.Map.{Map}
 use Rattle.outcome.specs.Outcome.{Stop, accepted, refuses}
 use Rattle.memory_map.specs.Map.{sound}

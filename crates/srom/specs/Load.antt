@@ -1,6 +1,5 @@
 -- The load of a serial ROM (paper 01, "Serial ROM").
-use Rattle.std.specs.Prelude.{List, [], ◌∷◌, ℕ, ltb, length}
-use Rattle.words.specs.Choice.{if◌then◌else◌}
+use Rattle.std.specs.Prelude.{List, [], ◌∷◌, ℕ, ltb, length, if◌then◌else◌}
 use Rattle.words.specs.Store.{store}
 use Rattle.memory_map.specs.declared.map.Map.{Map}
 use Rattle.outcome.specs.Outcome.{Outcome, refuses, outcome_at, memory_at, Loaded}

@@ -1,6 +1,5 @@
 -- The blocks of a serial ROM, tested one after the other up to the stop (paper 01, "Serial ROM"). Nothing is stored.
-use Rattle.std.specs.Prelude.{not, List, [], ◌∷◌, ℕ, zero, suc, ◌+◌, ◌-◌, ◌*◌, ◌%◌, leb, ltb, eqb, length, take, drop, get_or}
-use Rattle.words.specs.Choice.{if◌then◌else◌}
+use Rattle.std.specs.Prelude.{not, List, [], ◌∷◌, ℕ, zero, suc, ◌+◌, ◌-◌, ◌*◌, ◌%◌, leb, ltb, eqb, length, take, drop, get_or, if◌then◌else◌}
 use Rattle.words.specs.Bytes.{big_endian_at}
 use Rattle.word_blocks.specs.Swap.{swap_words}
 use Rattle.memory_region.specs.declared.region.Right.TheVariants.{Write}

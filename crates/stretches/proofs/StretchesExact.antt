@@ -1,5 +1,5 @@
 -- The stretches below a bound are exact: an address is listed where it differs, in one stretch, and no two stretches adjoin.
-use Rattle.std.specs.Prelude.{◌≡◌, ◌⊎◌, Bool}
+use Rattle.std.specs.Prelude.{◌≡◌, ◌⊎◌, Bool, if◌then◌else◌}
 use Rattle.std.proofs.Math.Path.{refl, ap}
 use Rattle.std.proofs.Common.{sym, ◌∙◌}
 use Rattle.std.proofs.Math.Logic.{inl, inr, ⊎_elim}
@@ -9,7 +9,7 @@ use Prim.Native.Nat.{ℕ, zero, suc, ◌+◌, ◌≤◌, ◌<◌}
 use native.Mathlib.Omega.{arith}
 use Rattle.std.proofs.Math.Dec.{leb, eqb}
 use borrow.Author.Tests.{leb-true, leb-false, eqb-true, eqb-false}
-use Rattle.words.specs.Choice.{if◌then◌else◌, All}
+use Rattle.words.specs.Choice.{All}
 use Rattle.words.proofs.ChoiceLaws.{true-is-false, all_map}
 use Rattle.stretches.specs.Stretches.{Stretch, up_to, adjoins, add, add_if, differs, between, below, Listed, here, there, Ordered}
 use Rattle.stretches.proofs.StretchesLaws.{skip}

@@ -1,11 +1,10 @@
 -- Laws of the stretches below a bound, along blocks of addresses.
-use Rattle.std.specs.Prelude.{◌≡◌, refl, Bool, not, List, [], ◌∷◌, eqb}
+use Rattle.std.specs.Prelude.{◌≡◌, refl, Bool, not, List, [], ◌∷◌, eqb, if◌then◌else◌}
 use Rattle.std.proofs.Common.{ap, ◌∙◌, add-suc, arith, eq-eqb}
 use Rattle.std.proofs.Math.Bool.{true, false}
 use Prim.Native.Nat.{ℕ, zero, suc, ◌+◌, ◌-◌, ◌≤◌, ◌<◌}
 use Rattle.std.proofs.Math.Nat.{add-zero}
 use Rattle.std.proofs.Math.ListN.{length}
-use Rattle.words.specs.Choice.{if◌then◌else◌}
 use Rattle.stretches.specs.Stretches.{Stretch, up_to, adjoins, add, add_if, differs, between, below}
 
 -- ---- one stretch more

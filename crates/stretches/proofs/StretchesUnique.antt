@@ -1,8 +1,8 @@
 -- "each as long as possible" leaves no choice: ordered stretches are determined by the addresses in them and the values at their first
 -- ones; and an address in them is in one stretch.
-use Rattle.std.specs.Prelude.{◌≡◌, refl, Bool, true, false, ◌&&◌, List, [], ◌∷◌, ℕ, suc, ◌+◌, ◌≤◌, ◌<◌, leb, ltb, length}
+use Rattle.std.specs.Prelude.{◌≡◌, refl, Bool, true, false, ◌&&◌, List, [], ◌∷◌, ℕ, suc, ◌+◌, ◌≤◌, ◌<◌, leb, ltb, length, if◌then◌else◌}
 use Rattle.std.proofs.Common.{ap, sym, ◌∙◌, arith, leb-true, le-leb, ltb-true, ltb-false}
-use Rattle.words.specs.Choice.{if◌then◌else◌, All}
+use Rattle.words.specs.Choice.{All}
 use Rattle.words.proofs.ChoiceLaws.{both}
 use Rattle.stretches.specs.Stretches.{Stretch, Listed, here, there, times, Ordered}
 use Rattle.stretches.proofs.StretchesExact.{Valued, listed-from, once}

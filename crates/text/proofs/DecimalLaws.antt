@@ -1,9 +1,8 @@
 -- Laws of decimal digits.
-use Rattle.std.specs.Prelude.{◌≡◌, refl, Bool, true, false, [], ◌∷◌, eqb, length}
+use Rattle.std.specs.Prelude.{◌≡◌, refl, Bool, true, false, [], ◌∷◌, eqb, length, if◌then◌else◌}
 use Prim.Native.Nat.{ℕ, zero, suc, ◌+◌, ◌-◌, ◌/◌, ◌≤◌, ◌<◌}
 use native.Mathlib.Omega.{arith}
 use borrow.Author.Tests.{eq-eqb, ne_eqb}
-use Rattle.words.specs.Choice.{if◌then◌else◌}
 use Rattle.text.specs.Digits.{digits}
 use Rattle.text.proofs.DigitsLaws.{length_digits}
 use Rattle.text.specs.Decimal.{leading, width, decimal}

@@ -1,6 +1,5 @@
 -- A number in decimal digits, as bytes of text.
-use Rattle.std.specs.Prelude.{List, ℕ, zero, suc, ◌+◌, ◌/◌, eqb}
-use Rattle.words.specs.Choice.{if◌then◌else◌}
+use Rattle.std.specs.Prelude.{List, ℕ, zero, suc, ◌+◌, ◌/◌, eqb, if◌then◌else◌}
 use Rattle.text.specs.Digits.{digits}
 
 -- how many more digits stand before the last one: those of the quotient by 10, of which k are counted at most

@@ -1,6 +1,5 @@
 -- The line that a program writes for a refusal.
-use Rattle.std.specs.Prelude.{List, [], ◌∷◌, ◌++◌, ℕ, leb, length}
-use Rattle.words.specs.Choice.{if◌then◌else◌}
+use Rattle.std.specs.Prelude.{List, [], ◌∷◌, ◌++◌, ℕ, leb, length, if◌then◌else◌}
 use Rattle.text.specs.Decimal.{decimal}
 
 -- "refused N at P" and a newline

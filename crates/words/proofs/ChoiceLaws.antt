@@ -1,8 +1,8 @@
 -- Laws of tests and of properties of every element.
-use Rattle.std.specs.Prelude.{◌≡◌, refl, Bool, true, false, ◌&&◌, ℕ, zero, suc, ◌≤◌, leb, take, drop, get_or}
+use Rattle.std.specs.Prelude.{◌≡◌, refl, Bool, true, false, ◌&&◌, ℕ, zero, suc, ◌≤◌, leb, take, drop, get_or, if◌then◌else◌}
 use Rattle.std.proofs.Common.{sym, subst, arith, leb-true, le-leb}
 use mathlib.Core.List.{List, [], ◌∷◌, ◌++◌, reverse, reverse_aux}
-use Rattle.words.specs.Choice.{if◌then◌else◌, All, every}
+use Rattle.words.specs.Choice.{All, every}
 
 -- ---- tests
 pub true-is-false : {A : Type 0} → true ≡ false → A

@@ -1,6 +1,5 @@
 -- Bytes stored into a list at a place; all else is untouched.
-use Rattle.std.specs.Prelude.{List, ◌++◌, ℕ, ◌+◌, leb, length, take, drop}
-use Rattle.words.specs.Choice.{if◌then◌else◌}
+use Rattle.std.specs.Prelude.{List, ◌++◌, ℕ, ◌+◌, leb, length, take, drop, if◌then◌else◌}
 
 -- m with the elements of d from place p on
 unfoldable pub store : List ℕ → ℕ → List ℕ → List ℕ

@@ -1,7 +1,6 @@
 -- Wrong checkers: each does what ours does, but for one thing.
-use Rattle.std.specs.Prelude.{◌≡◌, refl, Bool, true, not, ◌&&◌, List, [], ◌∷◌, ℕ, zero, suc, ◌+◌, ◌*◌, ◌/◌, min, leb, eqb, length}
+use Rattle.std.specs.Prelude.{◌≡◌, refl, Bool, true, not, ◌&&◌, List, [], ◌∷◌, ℕ, zero, suc, ◌+◌, ◌*◌, ◌/◌, min, leb, eqb, length, if◌then◌else◌}
 use Rattle.std.proofs.Common.{ap}
-use Rattle.words.specs.Choice.{if◌then◌else◌}
 use Rattle.words.specs.Bytes.{little_endian_at}
 use Rattle.words.specs.Equal.{same}
 use Rattle.plan.specs.Plan.{Piece, put, fill, run, Read, refused, pieces, read_plan}

@@ -1,7 +1,6 @@
 -- Laws of the list that is made address by address: the stretches below an address, or more than there may be.
-use Rattle.std.specs.Prelude.{◌≡◌, List, ℕ, ◌+◌, ◌-◌, ◌≤◌, ◌<◌, eqb, length}
+use Rattle.std.specs.Prelude.{◌≡◌, List, ℕ, ◌+◌, ◌-◌, ◌≤◌, ◌<◌, eqb, length, if◌then◌else◌}
 use Rattle.std.proofs.Common.{sym, ◌∙◌, arith}
-use Rattle.words.specs.Choice.{if◌then◌else◌}
 use Rattle.stretches.specs.Stretches.{Stretch, add, below}
 use Rattle.stretches.proofs.StretchesLaws.{longer, block}
 use Rattle.stretches.specs.Stretches.Words.{Listing}

@@ -1,7 +1,6 @@
 -- What the code's spans, sources and segments say, and their laws: a segment that is narrowed piece by piece is the definition's.
-use Rattle.std.specs.Prelude.{◌≡◌, refl, Bool, true, false, List, ℕ, ◌+◌, ◌≤◌, ◌<◌, min, ltb, length, take, drop}
+use Rattle.std.specs.Prelude.{◌≡◌, refl, Bool, true, false, List, ℕ, ◌+◌, ◌≤◌, ◌<◌, min, ltb, length, take, drop, if◌then◌else◌}
 use Rattle.std.proofs.Common.{ap, sym, add-zero, arith, ltb-true, ltb-false}
-use Rattle.words.specs.Choice.{if◌then◌else◌}
 use Rattle.word_blocks.proofs.RepeatLaws.{length-filling}
 use Rattle.plan.specs.declared.piece.Piece as CodePiece
 use Rattle.plan.specs.declared.piece.Piece.TheVariants as code

@@ -1,10 +1,9 @@
 -- Segments of addresses in which no piece begins or ends: there one source gives every last byte. What the code looks for; not needed for
 -- belief.
-use Rattle.std.specs.Prelude.{◌≡◌, refl, Bool, true, false, List, [], ◌∷◌, ℕ, suc, ◌+◌, ◌≤◌, ◌<◌, min, ltb, length, drop}
+use Rattle.std.specs.Prelude.{◌≡◌, refl, Bool, true, false, List, [], ◌∷◌, ℕ, suc, ◌+◌, ◌≤◌, ◌<◌, min, ltb, length, drop, if◌then◌else◌}
 use Rattle.std.proofs.Common.{ap, sym, ◌∙◌, arith, drop_of_length-le}
 use Rattle.std.proofs.Math.Numerals.{add-one}
 use borrow.Author.Tests.{ltb-true, ltb-false, lt-ltb, le-ltb}
-use Rattle.words.specs.Choice.{if◌then◌else◌}
 use Rattle.plan.specs.Plan.{Piece, address_of}
 use Rattle.compare.specs.LastByte.{end_of, covers, byte_at, not_stored, after, after_all, last_byte}
 use Rattle.compare.specs.LastByte.Laws.{covers_at, covers_below, covers-past, after-covered, after-other}

@@ -1,9 +1,9 @@
 -- Which plans are read: those that 01's reader accepts and whose pieces end in the address space; and for what others are refused.
-use Rattle.std.specs.Prelude.{◌≡◌, ◌⊎◌, Bool, true, false, List, ltb, length}
+use Rattle.std.specs.Prelude.{◌≡◌, ◌⊎◌, Bool, true, false, List, ltb, length, if◌then◌else◌}
 use Rattle.std.proofs.Math.Path.{refl, sym}
 use Rattle.std.proofs.Common.{ap, ◌∙◌, inl, inr, arith, ltb-true, le-ltb}
 use Prim.Native.Nat.{ℕ, zero, suc, ◌+◌, ◌≤◌, ◌<◌}
-use Rattle.words.specs.Choice.{if◌then◌else◌, All}
+use Rattle.words.specs.Choice.{All}
 use Rattle.words.specs.Bytes.{Bytes}
 use Rattle.plan.specs.Plan.{Piece, data_at, data_length, Row, put_row, fill_row, run_row, piece_in, Judged, good, bad, piece_at, Read, refused, pieces, before, next, read_pieces, HeaderJudged, counts, fails, judge_header, headed, read_plan}
 use Rattle.plan.proofs.PlanSteps.{refused-no-pieces, first_read}

@@ -1,7 +1,7 @@
 -- What each wrong comparison gives for the two plans; so the claims are false of it.
-use Rattle.std.specs.Prelude.{◌≡◌, refl, false, not, List, [], ◌∷◌, reverse, ℕ, ◌≤◌, eqb, get_or}
+use Rattle.std.specs.Prelude.{◌≡◌, refl, false, not, List, [], ◌∷◌, reverse, ℕ, ◌≤◌, eqb, get_or, if◌then◌else◌}
 use Rattle.std.proofs.Common.{ap, sym, ◌∙◌, arith, eq-eqb}
-use Rattle.words.specs.Choice.{if◌then◌else◌, All}
+use Rattle.words.specs.Choice.{All}
 use Rattle.words.proofs.ChoiceLaws.{all-reverse}
 use Rattle.word_blocks.specs.Open as RowsGroup
 use Rattle.plan.specs.Plan.{Piece}

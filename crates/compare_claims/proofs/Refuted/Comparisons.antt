@@ -1,7 +1,6 @@
 -- Wrong comparisons: each does what ours does, but for one thing.
-use Rattle.std.specs.Prelude.{◌≡◌, refl, Bool, true, ◌&&◌, List, [], ◌∷◌, ◌++◌, reverse, ℕ, zero, suc, ◌*◌, ◌-◌, ltb, eqb}
+use Rattle.std.specs.Prelude.{◌≡◌, refl, Bool, true, ◌&&◌, List, [], ◌∷◌, ◌++◌, reverse, ℕ, zero, suc, ◌*◌, ◌-◌, ltb, eqb, if◌then◌else◌}
 use Rattle.std.proofs.Common.{ap}
-use Rattle.words.specs.Choice.{if◌then◌else◌}
 use Rattle.plan.specs.Plan.{Piece, Read, refused, pieces}
 use Rattle.plan.specs.Meaning.{stretch}
 use Rattle.stretches.specs.Stretches.{Stretch, between, below}

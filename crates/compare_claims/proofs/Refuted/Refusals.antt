@@ -1,7 +1,6 @@
 -- What is said of refusals is false of comparisons that test in another order.
-use Rattle.std.specs.Prelude.{◌≡◌, refl, [], ℕ, ◌*◌, ltb}
+use Rattle.std.specs.Prelude.{◌≡◌, refl, [], ℕ, ◌*◌, ltb, if◌then◌else◌}
 use Rattle.std.proofs.Common.{sym, ◌∙◌, arith}
-use Rattle.words.specs.Choice.{if◌then◌else◌}
 use Rattle.plan.specs.Plan.{Read, refused, pieces}
 use Rattle.plan.specs.Open as PlanGroup
 use Rattle.compare.specs.Reading.{addresses, compared_at, compared_pieces, read_compared}

@@ -1,7 +1,6 @@
 -- Laws of a line: the lengths of its parts, and that they are written one behind the other.
-use Rattle.std.specs.Prelude.{◌≡◌, refl, Bool, true, false, List, [], ◌∷◌, ◌++◌, ℕ, ◌+◌, ◌≤◌, ◌<◌, eqb, length, set}
+use Rattle.std.specs.Prelude.{◌≡◌, refl, Bool, true, false, List, [], ◌∷◌, ◌++◌, ℕ, ◌+◌, ◌≤◌, ◌<◌, eqb, length, set, if◌then◌else◌}
 use Rattle.std.proofs.Common.{ap, sym, ◌∙◌, append_assoc, arith, length-append, eq-eqb, ne_eqb}
-use Rattle.words.specs.Choice.{if◌then◌else◌}
 use Rattle.words.specs.Store.{store, store_if_fits}
 use Rattle.words.proofs.StoreLaws.{length-store, store-fits, store-adjoining, sets-store}
 use Rattle.text.specs.Hex.{hex}

@@ -1,11 +1,10 @@
 -- How a call can end, and what is then known.
-use Rattle.std.specs.Prelude.{◌≡◌, Bool, not, ◌&&◌, List, ℕ, suc, ◌*◌, ◌≤◌, ◌<◌, eqb, length, take}
+use Rattle.std.specs.Prelude.{◌≡◌, Bool, not, ◌&&◌, List, ℕ, suc, ◌*◌, ◌≤◌, ◌<◌, eqb, length, take, if◌then◌else◌}
 use Rattle.std.proofs.Math.Path.{refl}
 use Rattle.std.proofs.Common.{sym, arith}
 use Rattle.std.proofs.Math.Bool.{true, false}
 use Rattle.std.proofs.Math.Dec.{ltb, leb}
 use borrow.Author.Tests.{leb-false, ltb-true, ltb-false, eqb-true}
-use Rattle.words.specs.Choice.{if◌then◌else◌}
 use Rattle.words.proofs.ChoiceLaws.{true-is-false}
 use Rattle.words.specs.Store.{store_if_fits}
 use Rattle.flood_fill.specs.declared.message.Message.{Message}

@@ -1,5 +1,5 @@
 -- Where the blocks of an image stand.
-use Rattle.std.specs.Prelude.{◌≡◌, refl, Bool, true, false, List, ◌++◌, leb, eqb, drop}
+use Rattle.std.specs.Prelude.{◌≡◌, refl, Bool, true, false, List, ◌++◌, leb, eqb, drop, if◌then◌else◌}
 use Rattle.std.proofs.Math.Path.{ap}
 use Rattle.std.proofs.Common.{◌∙◌, zero-mul, length-take, length-drop, take_all, length-take-le, le-leb, leb-true, leb-false, eq-eqb}
 use Prim.Native.Nat.{ℕ, zero, suc, ◌+◌, ◌*◌, ◌≤◌, ◌<◌}
@@ -8,7 +8,6 @@ use native.Mathlib.Omega.{arith}
 use Rattle.std.proofs.Math.ListN.{length, take, length-append}
 use Rattle.std.proofs.Math.Seq.{take-add}
 use Rattle.std.proofs.lemmas.Bool.{eqb-false}
-use Rattle.words.specs.Choice.{if◌then◌else◌}
 use Rattle.words.proofs.RangeLaws.{Apart, before, behind}
 use Rattle.flood_fill.specs.Limits.{right_size}
 use Rattle.flood_fill.specs.Receive.{word_bytes}

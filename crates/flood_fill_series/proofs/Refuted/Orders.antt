@@ -1,7 +1,6 @@
 -- The first claim is false of a receiver that keeps data of any block, and of one that takes marks away.
-use Rattle.std.specs.Prelude.{◌≡◌, refl, Bool, true, false, ◌||◌, [], ◌∷◌, ℕ, eqb, get_or}
+use Rattle.std.specs.Prelude.{◌≡◌, refl, Bool, true, false, ◌||◌, [], ◌∷◌, ℕ, eqb, get_or, if◌then◌else◌}
 use Rattle.std.proofs.Common.{ap, arith}
-use Rattle.words.specs.Choice.{if◌then◌else◌}
 use Rattle.flood_fill.specs.declared.message.Message.TheVariants.{Start, BlockData}
 use Rattle.flood_fill_series.specs.Claims.{OrderFree}
 use Rattle.flood_fill_series.proofs.Refuted.Receivers.{keeps_any_block, unmarks_repeated}

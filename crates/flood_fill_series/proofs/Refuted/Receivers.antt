@@ -1,6 +1,5 @@
 -- Wrong receivers: each does what ours does, but for one thing.
-use Rattle.std.specs.Prelude.{Bool, true, false, ◌&&◌, List, ℕ, ◌*◌, eqb, take, set, replicate}
-use Rattle.words.specs.Choice.{if◌then◌else◌}
+use Rattle.std.specs.Prelude.{Bool, true, false, ◌&&◌, List, ℕ, ◌*◌, eqb, take, set, replicate, if◌then◌else◌}
 use Rattle.words.specs.Store.{store_if_fits}
 use Rattle.flood_fill.specs.declared.message.Message.TheVariants.{Start, BlockStart, BlockData, BlockEnd}
 use Rattle.flood_fill.specs.declared.header.Opened.{Opened}

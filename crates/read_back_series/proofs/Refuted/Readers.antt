@@ -1,7 +1,6 @@
 -- Wrong readers: each does what ours does, but for one thing.
-use Rattle.std.specs.Prelude.{◌≡◌, refl, not, ◌&&◌, List, [], ◌++◌, ℕ, zero, suc, ◌+◌, ◌*◌, ◌%◌, ltb, leb, eqb, length}
+use Rattle.std.specs.Prelude.{◌≡◌, refl, not, ◌&&◌, List, [], ◌++◌, ℕ, zero, suc, ◌+◌, ◌*◌, ◌%◌, ltb, leb, eqb, length, if◌then◌else◌}
 use Rattle.std.proofs.Common.{ap}
-use Rattle.words.specs.Choice.{if◌then◌else◌}
 use Rattle.words.specs.Bytes.{little_endian_at}
 use Rattle.words.specs.Round.{round_up}
 use Rattle.words.specs.Four.{four_bytes}

@@ -1,5 +1,5 @@
 -- Demand 3 for one load of a serial ROM image: the walk from a piece's block on, and what it stores.
-use Rattle.std.specs.Prelude.{◌≡◌, Bool, true, false, take, get_or}
+use Rattle.std.specs.Prelude.{◌≡◌, Bool, true, false, take, get_or, if◌then◌else◌}
 use Rattle.std.proofs.Math.Path.{refl, ap}
 use Rattle.std.proofs.Common.{sym, ◌∙◌, add-zero, arith, length-append, length-drop, get_or-drop}
 use mathlib.Core.List.{List, [], ◌∷◌, ◌++◌, append_assoc}
@@ -7,7 +7,7 @@ use Prim.Native.Nat.{ℕ, zero, suc, ◌+◌, ◌-◌, ◌*◌, ◌/◌, ◌≤�
 use Rattle.std.proofs.Math.ListN.{length, drop}
 use Rattle.std.proofs.Math.Seq.{take_at, drop_at, drop-drop}
 use borrow.Author.Tests.{le-ltb}
-use Rattle.words.specs.Choice.{All, if◌then◌else◌}
+use Rattle.words.specs.Choice.{All}
 use Rattle.words.proofs.ChoiceLaws.{all_drop}
 use Rattle.words.specs.Bytes.{big_endian, big_endian_at}
 use Rattle.words.proofs.BytesLaws.{length-big_endian, big-at-drop, big-at-behind, big-at-front}

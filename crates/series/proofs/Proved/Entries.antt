@@ -1,5 +1,5 @@
 -- The entries of an image that carries pieces and lies in memory: what each says, and the walk over a stretch of them (paper 01, "Plans", demand 3).
-use Rattle.std.specs.Prelude.{◌≡◌, Bool, length, take, drop}
+use Rattle.std.specs.Prelude.{◌≡◌, Bool, length, take, drop, if◌then◌else◌}
 use Rattle.std.proofs.Math.Path.{refl}
 use Rattle.std.proofs.Common.{ap, sym, ◌∙◌, add_assoc, drop-drop}
 use Rattle.std.proofs.Math.Bool.{true, false}
@@ -7,7 +7,7 @@ use mathlib.Core.List.{List, [], ◌∷◌}
 use Prim.Native.Nat.{ℕ, zero, suc, ◌+◌, ◌-◌, ◌*◌, ◌%◌, ◌≤◌, ◌<◌}
 use native.Mathlib.Omega.{arith}
 use borrow.Author.Tests.{eq-eqb, ne_eqb}
-use Rattle.words.specs.Choice.{if◌then◌else◌, All}
+use Rattle.words.specs.Choice.{All}
 use Rattle.words.specs.Bytes.{little_endian_at}
 use Rattle.words.proofs.BytesLaws.{little-at-part}
 use Rattle.words.proofs.RoundLaws.{round_whole}

@@ -1,8 +1,7 @@
 -- Demand 3 is false of loaders that are wrong in a later load only (paper 01, "Plans"). Each does what ours does in a load from the
 -- image's start, so no first load shows that it is wrong: what refutes it is left by the second load, after the called code's change.
-use Rattle.std.specs.Prelude.{◌≡◌, refl, List, ℕ, ◌-◌, eqb, get_or}
+use Rattle.std.specs.Prelude.{◌≡◌, refl, List, ℕ, ◌-◌, eqb, get_or, if◌then◌else◌}
 use Rattle.std.proofs.Common.{ap, arith}
-use Rattle.words.specs.Choice.{if◌then◌else◌}
 use Rattle.outcome.specs.Outcome.{arm, thumb, Stop, end, unknown, run, Outcome, refused, accepted, Ending, stops, refuses}
 use Rattle.memory_map.specs.Open as MapGroup
 use Rattle.srom.specs.Open as SromGroup

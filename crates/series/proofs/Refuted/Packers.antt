@@ -1,8 +1,7 @@
 -- Demand 3 is false of software with a wrong packer (paper 01, "Plans", "Slips seen on this bench" and "Signing rule"). Each is refuted
 -- by one byte that one load of its image leaves.
-use Rattle.std.specs.Prelude.{◌≡◌, refl, List, [], ◌∷◌, ◌++◌, ℕ, ◌-◌, ◌%◌, leb, length, replicate}
+use Rattle.std.specs.Prelude.{◌≡◌, refl, List, [], ◌∷◌, ◌++◌, ℕ, ◌-◌, ◌%◌, leb, length, replicate, if◌then◌else◌}
 use Rattle.std.proofs.Common.{arith}
-use Rattle.words.specs.Choice.{if◌then◌else◌}
 use Rattle.srom.specs.Open as SromGroup
 use Rattle.aplx.specs.Open as AplxGroup
 use Rattle.plan.specs.Plan.{Piece, put, fill, run, Read, refused, pieces, read_plan}

@@ -1,8 +1,8 @@
 -- A series of two loads in the small setting, with called code between them (paper 01, "Plans", demand 3). The plan is a fill and a run,
 -- twice. The first load stops at the first run, the called code then writes a byte of the first fill, and the second load goes on.
-use Rattle.std.specs.Prelude.{◌≡◌, refl, false, List, [], ◌∷◌, ℕ, length}
+use Rattle.std.specs.Prelude.{◌≡◌, refl, false, List, [], ◌∷◌, ℕ, length, if◌then◌else◌}
 use Rattle.std.proofs.Common.{ap, arith}
-use Rattle.words.specs.Choice.{All, if◌then◌else◌}
+use Rattle.words.specs.Choice.{All}
 use Rattle.words.specs.Range.{meets}
 use Rattle.words.specs.Open as WordsGroup
 use Rattle.memory_region.specs.declared.region.Right.TheVariants.{Read}

@@ -1,5 +1,5 @@
 -- The image that keeps one copy of equal data is laid out as is claimed, and no other image of the same pieces is.
-use Rattle.std.specs.Prelude.{◌≡◌, Bool, true, false, take}
+use Rattle.std.specs.Prelude.{◌≡◌, Bool, true, false, take, if◌then◌else◌}
 use Rattle.std.proofs.Math.Path.{refl, ap, sym, subst}
 use Rattle.std.proofs.Common.{◌∙◌, take-append-drop, drop-drop}
 use mathlib.Core.List.{List, [], ◌∷◌, ◌++◌, append_assoc, append-nil}
@@ -8,7 +8,7 @@ use native.Mathlib.Omega.{arith}
 use Rattle.std.proofs.Math.ListN.{length, drop, length-append}
 use Rattle.std.proofs.Math.Seq.{take_at, drop_at, drop-length}
 use Rattle.std.proofs.lemmas.List.{drop-append-le}
-use Rattle.words.specs.Choice.{if◌then◌else◌, All}
+use Rattle.words.specs.Choice.{All}
 use Rattle.words.proofs.ChoiceLaws.{true-is-false}
 use Rattle.words.specs.Equal.{same}
 use Rattle.words.proofs.EqualLaws.{same-equal, equal-same}

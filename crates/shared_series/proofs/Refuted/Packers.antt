@@ -1,6 +1,5 @@
 -- Wrong packers: each does what ours does, but for one thing.
-use Rattle.std.specs.Prelude.{◌≡◌, refl, Bool, List, [], ◌∷◌, ◌++◌, ℕ, suc, ◌+◌, ◌*◌, ltb, eqb, length, take}
-use Rattle.words.specs.Choice.{if◌then◌else◌}
+use Rattle.std.specs.Prelude.{◌≡◌, refl, Bool, List, [], ◌∷◌, ◌++◌, ℕ, suc, ◌+◌, ◌*◌, ltb, eqb, length, take, if◌then◌else◌}
 use Rattle.words.specs.Equal.{same}
 use Rattle.words.specs.Four.{four_bytes}
 use Rattle.words.specs.Store.{store}
