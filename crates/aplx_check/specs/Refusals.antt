@@ -1,4 +1,4 @@
--- For what the check refuses (paper 02, C-20): three causes. `Refusals/Laws.antt` proves that every refusal has one of them (`refused-cause`),
+-- For what the check refuses (paper 02, C-20): three causes. `proofs/RefusalsLaws.antt` proves that every refusal has one of them (`refused-cause`),
 -- and that each is refused (`cause-refused`).
 use Rattle.std.specs.Prelude.{◌≡◌, ℕ, zero, suc, ◌+◌, ◌*◌, ◌<◌, ◌≤◌, List, [], ◌∷◌}
 use Rattle.words.specs.Bytes.{little_endian_at}

@@ -1,5 +1,5 @@
 -- The rules by which another firm's packer may write the APLX image of a plan (paper 02, C-20). `Check.antt` is the check, entry by entry;
--- `Check/Exact.antt` shows that it accepts the images that are written by these rules, and no others.
+-- `proofs/CheckExact.antt` shows that it accepts the images that are written by these rules, and no others.
 use Rattle.std.specs.Prelude.{◌≡◌, ℕ, suc, ◌+◌, ◌*◌, ◌≤◌, List, [], ◌∷◌, length}
 use Rattle.words.specs.Bytes.{little_endian_at}
 use Rattle.plan.specs.Plan as format

@@ -4,20 +4,16 @@ ghost use Rattle.comparison.specs.Code.{FromFiles};
 
 use crate::comparison::{LONGEST_PLAN, LONGEST_TEXT, Printed};
 use compare::compare::Which;
-use std::fs;
 use std::rt::Files;
 
-// The bytes of a file, as many as fit, at the buffer's front; none where it can't be opened. Answers their number.
+// The bytes of a file, as many as fit, at the buffer's front; none where it can't be opened, as by a name that is no text. Answers their number.
 fn read_file<R: Files>(rt: &R, name: &[u8], plan: &mut [u8]) -> usize
     ensures { IsPrefixLen result plan.new }
 {
     let Ok(path) = str::from_utf8(name) else {
         return 0;
     };
-    match fs::open(rt, path) {
-        Ok(mut file) => file_bytes::read_full(&mut file, plan),
-        Err(_) => 0,
-    }
+    file_bytes::read_file(rt, path, plan)
 }
 
 // What is printed for the plans in two files. One byte more is read than a plan may have, so that a longer one is seen.

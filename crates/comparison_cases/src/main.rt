@@ -8,12 +8,6 @@ use comparison::comparison::LONGEST_TEXT;
 use std::io;
 use std::rt::Files;
 
-fn lesser(a: usize, b: usize) -> usize
-    ensures { result ≤ b }
-{
-    if a < b { a } else { b }
-}
-
 // The name of a file, at the buffer's front. Answers its length.
 fn file(name: &[u8], ending: &[u8], path: &mut [u8]) -> usize
     requires { (length name.now ≤ 60) × (length ending.now ≤ 4) }
@@ -21,7 +15,7 @@ fn file(name: &[u8], ending: &[u8], path: &mut [u8]) -> usize
 {
     words::put::bytes(path, 0, name);
     words::put::bytes(path, name.len(), ending);
-    lesser(name.len() + ending.len(), path.len())
+    (name.len() + ending.len()).min(path.len())
 }
 
 // What is printed for the files NAME_old and NAME_new, and the plan that is refused, under a title.

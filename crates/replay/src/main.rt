@@ -2,10 +2,9 @@
 #![tactic(auto)]
 
 ghost use Rattle.std.specs.Prelude.{◌≡◌, length};
-ghost use Rattle.file_bytes.specs.Counts.{IsPrefixLen};
 
+use std::io;
 use std::rt::Files;
-use std::{fs, io};
 
 mod output; // text, numbers and bytes
 mod scan; // the characters of a line
@@ -55,19 +54,9 @@ fn room() -> [u8; 1048576]
     [0; 1048576]
 }
 
-// The bytes of a file at the buffer's front; none where it can't be opened. Answers their number.
-fn read_file<R: Files>(rt: &R, name: &str, buffer: &mut [u8]) -> usize
-    ensures { IsPrefixLen result buffer.new }
-{
-    match fs::open(rt, name) {
-        Ok(mut file) => file_bytes::read_full(&mut file, buffer),
-        Err(_) => 0,
-    }
-}
-
 fn file<R: Files + Print>(rt: &R, name: &str) -> io::Result<bool> {
     let mut text = room();
-    let n = read_file(rt, name, &mut text);
+    let n = file_bytes::read_file(rt, name, &mut text);
     checked(rt, &text[..n])
 }
 

@@ -1,4 +1,4 @@
--- Demand 3 (paper 01, "Plans"), as a statement about any software. `Proof/Theorem.antt` proves it of ours, and `Refuted` shows that it is
+-- Demand 3 (paper 01, "Plans"), as a statement about any software. `proofs/Proved/Theorem.antt` proves it of ours, and `Refuted` shows that it is
 -- false of wrong ones.
 use Rattle.std.specs.Prelude.{◌≡◌, true, List, ℕ, ◌≤◌, length}
 use Rattle.words.specs.Choice.{All}

@@ -1,5 +1,5 @@
 -- The pieces marked P (paper 01, "Bench pieces with known weight"), said of the definitions as a single table. Only the statement stands
--- here; Table/Proved.antt has the proof. Setting.antt has the inputs.
+-- here; proofs/TableProved.antt has the proof. Setting.antt has the inputs.
 use Rattle.std.specs.Prelude.{◌≡◌, true, List, [], ◌∷◌, ◌++◌, ℕ, length, replicate}
 use Rattle.words.specs.Bytes.{from_little_endian}
 use Rattle.memory_map.specs.declared.map.Map.{Map}
