@@ -5,11 +5,10 @@ ghost use Rattle.plan.specs.Packed.{output_after, outcome_of};
 ghost use Rattle.plan.specs.Code.Packer.{outcome_is};
 ghost use Rattle.conversion.specs.Conversion.{pack_for, written};
 
-use plan::packed::Answer;
-use plan::piece::PLAN_MALFORMED;
+use outcome::refusal::{Cause, Refusal};
 
 // The image that a plan is packed as: for APLX, for APLX with one copy of equal put data, for a serial ROM.
-#[derive(Clone, Copy)]
+#[derive(Clone, Copy, Debug, PartialEq, Eq)]
 pub enum Packing {
     Aplx,
     SharedAplx,
@@ -17,7 +16,7 @@ pub enum Packing {
 }
 
 // The packer of the image.
-fn pack(packing: Packing, plan: &[u8], output: &mut [u8]) -> Answer
+fn pack(packing: Packing, plan: &[u8], output: &mut [u8]) -> Result<usize, Refusal>
     ensures result_value { outcome_is result ≡ outcome_of (pack_for packing plan.now (length output.old)) }
     ensures output_after { output.new ≡ output_after (pack_for packing plan.now (length output.old)) output.old }
 {
@@ -35,7 +34,7 @@ pub fn convert(packing: Packing, plan: &[u8], output: &mut [u8]) -> usize
     ensures upper_bound { result ≤ length output.old }
 {
     if plan.len() > 32768 {
-        return text::refusal::put(output, PLAN_MALFORMED as u64, 0);
+        return text::refusal::put(output, Cause::PlanMalformed.number() as u64, 0);
     }
     let answer = pack(packing, plan, output);
     crate::shown::show(answer, output)

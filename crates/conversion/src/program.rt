@@ -4,7 +4,7 @@ ghost use Rattle.conversion.specs.Conversion.{FromFile};
 ghost use Rattle.conversion.specs.Restored.{FromImageFile, Inside};
 
 use crate::convert::Packing;
-use crate::read_back::Written;
+use crate::read_back::ImageTooLong;
 use std::io::Read;
 
 // What is written for the plan in a file: so many bytes at the output's front.
@@ -19,7 +19,7 @@ pub fn convert_file<R: Read>(packing: Packing, file: &mut R, output: &mut [u8; 6
 }
 
 // What is written for the image in a file. One byte more is read than an image may have, so that a longer one is seen.
-pub fn read_back_file<R: Read>(file: &mut R, output: &mut [u8; 32768]) -> Written
+pub fn read_back_file<R: Read>(file: &mut R, output: &mut [u8; 32768]) -> Result<usize, ImageTooLong>
     ensures from_image_file { FromImageFile (R.remaining file.old) (R.remaining file.new) output.old result output.new }
     ensures inside { Inside result output.new }
 {
@@ -45,9 +45,9 @@ pub fn run<R: Input + Print + Eprint>(rt: &R, packing: Packing) {
 pub fn run_read_back<R: Input + Print + Eprint>(rt: &R) {
     let mut output = [0u8; 32768];
     match read_back_file(&mut rt.reader(), &mut output) {
-        Written::Bytes { size } => write(rt, &output[..size]),
-        Written::TooLong => {
-            let _ = rt.eprint("the image is longer than 65,536 bytes\n");
+        Ok(size) => write(rt, &output[..size]),
+        Err(error) => {
+            let _ = eprintln!(rt; "{error}");
         }
     }
 }

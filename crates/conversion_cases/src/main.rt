@@ -2,7 +2,6 @@
 #![tactic(auto)]
 
 use conversion::convert::Packing;
-use conversion::read_back::Written;
 use std::rt::Files;
 use std::{fs, io};
 
@@ -43,8 +42,8 @@ fn image<R: Files + Print + Eprint>(rt: &R, name: &str) -> io::Result<()> {
         Ok(mut file) => {
             let mut output = [0u8; 32768];
             match conversion::program::read_back_file(&mut file, &mut output) {
-                Written::Bytes { size } => show(rt, name, ", plan: ", &output[..size]),
-                Written::TooLong => println!(rt; "{name}, plan: too long, nothing is written"),
+                Ok(size) => show(rt, name, ", plan: ", &output[..size]),
+                Err(_) => println!(rt; "{name}, plan: too long, nothing is written"),
             }
         }
         Err(error) => eprintln!(rt; "{name}: {error}"),

@@ -10,6 +10,8 @@ use Rattle.flood_fill.specs.Answer as flood
 use Rattle.compare.specs.Code as compare
 use Rattle.aplx_check.specs.Check as check
 use Rattle.compare.specs.Compare.{Which, neither, old_plan, new_plan, most_stretches, stretch_size}
+use Rattle.outcome_numbers.specs.declared.numbers.Event.{Event}
+use Rattle.outcome_numbers.specs.declared.numbers.Event.TheVariants as happened
 use Rattle.outcome_numbers.specs.declared.numbers.Parts.{Parts}
 
 -- ---- the layout
@@ -84,6 +86,24 @@ OTHER_RUN = 14
 -- an image was checked against a plan, and is accepted
 abbrev pub CHECKED : ℕ
 CHECKED = 15
+
+abbrev pub event_number : Event → ℕ
+event_number happened.Refused = REFUSED
+event_number happened.End = END
+event_number happened.Unknown = UNKNOWN
+event_number happened.Run = RUN
+event_number happened.Start = START
+event_number happened.Response = RESPONSE
+event_number happened.Silent = SILENT
+event_number happened.Read = READ
+event_number happened.Packed = PACKED
+event_number happened.Accepted = ACCEPTED
+event_number happened.Ignored = IGNORED
+event_number happened.Missing = MISSING
+event_number happened.Done = DONE
+event_number happened.SameRun = SAME_RUN
+event_number happened.OtherRun = OTHER_RUN
+event_number happened.Checked = CHECKED
 
 -- the kind of a run: 0 where there is none, 1 ARM, 2 Thumb
 abbrev pub kind_number : Kind → ℕ

@@ -1,57 +1,41 @@
 // The numbers of two plans that were compared, in the layout of every call.
 ghost use Rattle.std.specs.Prelude.{◌≡◌};
 ghost use Rattle.compare.specs.Code.{which_is, outcome_is};
-ghost use Rattle.outcome_numbers.specs.Numbers.{which_number, run_event, compared_parts};
+ghost use Rattle.outcome_numbers.specs.Numbers.{event_number, which_number, run_event, compared_parts};
 
-use crate::numbers::{Parts, REFUSED, count, needed};
-use compare::compare::{Compared, OUTPUT_SIZE, Which};
+use crate::numbers::{Event, Parts, count, needed, refused};
+use compare::compare::{Found, OUTPUT_SIZE, Refused, Side};
 
-// Events.
-const SAME_RUN: u64 = 13;
-
-const OTHER_RUN: u64 = 14;
-
-// The plan that a refusal is about.
-const NEITHER_PLAN: u64 = 0;
-
-const OLD_PLAN: u64 = 1;
-
-const NEW_PLAN: u64 = 2;
-
-fn which_number(which: Which) -> u64
+// The plan that a refusal is about: 0 for neither.
+fn which_number(which: Option<Side>) -> u64
     ensures { result ≡ which_number (which_is which) }
 {
     match which {
-        Which::Neither => NEITHER_PLAN,
-        Which::Old => OLD_PLAN,
-        Which::New => NEW_PLAN,
+        None => 0,
+        Some(Side::Old) => 1,
+        Some(Side::New) => 2,
     }
 }
 
-fn run_event(same: bool) -> u64
-    ensures { result ≡ run_event same }
+fn run_event(same: bool) -> Event
+    ensures { event_number result ≡ run_event same }
 {
-    if same { SAME_RUN } else { OTHER_RUN }
+    if same {
+        Event::SameRun
+    } else {
+        Event::OtherRun
+    }
 }
 
 // Two plans that were compared, whose stretches have so many bytes.
-pub fn compared_parts(answer: Compared, bytes: u64) -> Parts
+pub fn compared_parts(answer: Result<Found, Refused>, bytes: u64) -> Parts
     ensures { result ≡ compared_parts bytes (outcome_is answer) }
 {
     match answer {
-        Compared::Refused { which, refusal } => Parts {
-            refusal: refusal.number,
-            place: refusal.place as u64,
-            event: REFUSED,
+        Ok(found) => count(run_event(found.same_run), found.count as u64, bytes),
+        Err(Refused { which, refusal }) => Parts {
             kind: which_number(which),
-            address: 0,
-            resume: 0,
-            items: 0,
-            bytes: needed(refusal.number, OUTPUT_SIZE as u64),
+            ..refused(refusal, needed(refusal.cause, OUTPUT_SIZE as u64))
         },
-        Compared::Found {
-            count: stretches,
-            same_run,
-        } => count(run_event(same_run), stretches as u64, bytes),
     }
 }

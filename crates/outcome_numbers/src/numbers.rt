@@ -6,52 +6,49 @@ ghost use Rattle.plan.specs.Code.Packer as packer;
 ghost use Rattle.scp.specs.Code.{reply_of};
 ghost use Rattle.flood_fill.specs.Answer.{answer_is};
 ghost use Rattle.aplx_check.specs.Code.{checked_is};
-ghost use Rattle.outcome_numbers.specs.Numbers.{numbers, refused_parts, needed, run_parts, count_parts, load_parts, reply_parts, read_parts, packed_parts, message_parts, checked_parts};
+ghost use Rattle.outcome.specs.Refusal.{number_of};
+ghost use Rattle.outcome_numbers.specs.Numbers.{event_number, numbers, refused_parts, needed, run_parts, count_parts, load_parts, reply_parts, read_parts, packed_parts, message_parts, checked_parts};
 
-use outcome::answer::{Answer, Entry, OUTPUT_TOO_SMALL, Refusal, Stop};
+use flood_fill::receiver::Progress;
+use outcome::answer::{Entry, Load, Stop};
+use outcome::refusal::{Cause, Refusal};
+use plan::read::Pieces;
 use scp::answer::Reply;
 
-// Events: what happened.
-pub(crate) const REFUSED: u64 = 0;
+// What happened, as its number.
+#[derive(Clone, Copy, Debug, PartialEq, Eq)]
+pub enum Event {
+    Refused = 0,
+    End = 1,
+    Unknown = 2,
+    Run = 3,
+    Start = 4,
+    Response = 5,
+    Silent = 6,
+    Read = 7,
+    Packed = 8,
+    Accepted = 9,
+    Ignored = 10,
+    Missing = 11,
+    Done = 12,
+    SameRun = 13,
+    OtherRun = 14,
+    Checked = 15,
+}
 
-const END: u64 = 1;
-
-const UNKNOWN: u64 = 2;
-
-const RUN: u64 = 3;
-
-const START: u64 = 4;
-
-const RESPONSE: u64 = 5;
-
-const SILENT: u64 = 6;
-
-const READ: u64 = 7;
-
-const PACKED: u64 = 8;
-
-const ACCEPTED: u64 = 9;
-
-const IGNORED: u64 = 10;
-
-const MISSING: u64 = 11;
-
-const DONE: u64 = 12;
-
-const CHECKED: u64 = 15;
-
-// Kinds of a run.
-const NO_KIND: u64 = 0;
-
-const ARM: u64 = 1;
-
-const THUMB: u64 = 2;
+impl Event {
+    pub fn number(self) -> u64
+        ensures { result ≡ event_number self }
+    {
+        self as u64
+    }
+}
 
 // The output that a packet is answered in.
 const SCP_OUTPUT: u64 = 272;
 
 // The parts of an outcome, in the order of the numbers. What a case does not name is 0.
-#[derive(Clone, Copy)]
+#[derive(Clone, Copy, Debug, PartialEq, Eq)]
 pub struct Parts {
     pub refusal: u32,
     pub place: u64,
@@ -80,67 +77,52 @@ pub fn put(outcome: &mut [u64; 8], parts: Parts) -> u32
     parts.refusal
 }
 
-fn refused(refusal: Refusal, bytes: u64) -> Parts
-    ensures { result ≡ refused_parts refusal.number refusal.place bytes }
-{
-    Parts {
-        refusal: refusal.number,
-        place: refusal.place as u64,
-        event: REFUSED,
-        kind: NO_KIND,
-        address: 0,
-        resume: 0,
-        items: 0,
-        bytes,
-    }
-}
-
-// The bytes that a refusal tells of an output that had to hold so many.
-pub(crate) fn needed(number: u32, bytes: u64) -> u64
-    ensures { result ≡ needed number bytes }
-{
-    if number == OUTPUT_TOO_SMALL { bytes } else { 0 }
-}
-
-fn run(event: u64, entry: Entry, resume: u32, items: u64, bytes: u64) -> Parts
-    ensures { result ≡ run_parts event (kind_of entry) (address_of entry) resume items bytes }
-{
-    match entry {
-        Entry::Arm(address) => Parts {
-            refusal: 0,
-            place: 0,
-            event,
-            kind: ARM,
-            address: address as u64,
-            resume: resume as u64,
-            items,
-            bytes,
-        },
-        Entry::Thumb(address) => Parts {
-            refusal: 0,
-            place: 0,
-            event,
-            kind: THUMB,
-            address: address as u64,
-            resume: resume as u64,
-            items,
-            bytes,
-        },
-    }
-}
-
-pub(crate) fn count(event: u64, items: u64, bytes: u64) -> Parts
-    ensures { result ≡ count_parts event items bytes }
+// An event with a count of items or of bytes, or with neither.
+pub(crate) fn count(event: Event, items: u64, bytes: u64) -> Parts
+    ensures { result ≡ count_parts (event_number event) items bytes }
 {
     Parts {
         refusal: 0,
         place: 0,
-        event,
-        kind: NO_KIND,
+        event: event.number(),
+        kind: 0,
         address: 0,
         resume: 0,
         items,
         bytes,
+    }
+}
+
+pub(crate) fn refused(refusal: Refusal, bytes: u64) -> Parts
+    ensures { result ≡ refused_parts (number_of refusal.cause) refusal.place bytes }
+{
+    Parts {
+        refusal: refusal.cause.number(),
+        place: refusal.place as u64,
+        ..count(Event::Refused, 0, bytes)
+    }
+}
+
+// The bytes that a refusal tells of an output that had to hold so many.
+pub(crate) fn needed(cause: Cause, bytes: u64) -> u64
+    ensures { result ≡ needed (number_of cause) bytes }
+{
+    if cause == Cause::OutputTooSmall { bytes } else { 0 }
+}
+
+// A run: its kind, 1 for ARM and 2 for Thumb, and its address.
+fn run(event: Event, entry: Entry, resume: u32, items: u64, bytes: u64) -> Parts
+    ensures { result ≡ run_parts (event_number event) (kind_of entry) (address_of entry) resume items bytes }
+{
+    let (kind, address) = match entry {
+        Entry::Arm(address) => (1, address),
+        Entry::Thumb(address) => (2, address),
+    };
+    Parts {
+        kind,
+        address: address as u64,
+        resume: resume as u64,
+        ..count(event, items, bytes)
     }
 }
 
@@ -149,108 +131,83 @@ fn stop_parts(stop: Stop, taken: u64, stored: u64) -> Parts
 {
     match stop {
         Stop::End { place } => Parts {
-            refusal: 0,
             place: place as u64,
-            event: END,
-            kind: NO_KIND,
-            address: 0,
-            resume: 0,
-            items: taken,
-            bytes: stored,
+            ..count(Event::End, taken, stored)
         },
         Stop::Unknown { command, place } => Parts {
-            refusal: 0,
             place: place as u64,
-            event: UNKNOWN,
-            kind: NO_KIND,
             address: command as u64,
-            resume: 0,
-            items: taken,
-            bytes: stored,
+            ..count(Event::Unknown, taken, stored)
         },
-        Stop::Run { entry, resume } => run(RUN, entry, resume, taken, stored),
+        Stop::Run { entry, resume } => run(Event::Run, entry, resume, taken, stored),
     }
 }
 
 // A load.
-pub fn load_parts(answer: Answer) -> Parts
+pub fn load_parts(answer: Result<Load, Refusal>) -> Parts
     ensures { result ≡ load_parts (outcome_of answer) }
 {
     match answer {
-        Answer::Refused(refusal) => refused(refusal, 0),
-        Answer::Accepted {
-            stop,
-            taken,
-            stored,
-        } => stop_parts(stop, taken as u64, stored),
+        Ok(load) => stop_parts(load.stop, load.taken as u64, load.stored),
+        Err(refusal) => refused(refusal, 0),
     }
 }
 
 // A packet's reply.
-pub fn reply_parts(reply: Reply) -> Parts
-    ensures { result ≡ reply_parts (reply_of reply) }
+pub fn reply_parts(answer: Result<Reply, Refusal>) -> Parts
+    ensures { result ≡ reply_parts (reply_of answer) }
 {
-    match reply {
-        Reply::Refused(refusal) => refused(refusal, needed(refusal.number, SCP_OUTPUT)),
-        Reply::Silent => count(SILENT, 0, 0),
-        Reply::Response { size } => count(RESPONSE, 0, size as u64),
-        Reply::Run { entry } => run(START, entry, 0, 0, 0),
-        Reply::Load { entry, resume } => run(RUN, entry, resume, 0, 0),
+    match answer {
+        Ok(Reply::Silent) => count(Event::Silent, 0, 0),
+        Ok(Reply::Response { size }) => count(Event::Response, 0, size as u64),
+        Ok(Reply::Run { entry }) => run(Event::Start, entry, 0, 0, 0),
+        Ok(Reply::Load { entry, resume }) => run(Event::Run, entry, resume, 0, 0),
+        Err(refusal) => refused(refusal, needed(refusal.cause, SCP_OUTPUT)),
     }
 }
 
 // A plan that was read.
-pub fn read_parts(answer: plan::read::Answer) -> Parts
+pub fn read_parts(answer: Result<Pieces, Refusal>) -> Parts
     ensures { result ≡ read_parts (reader.outcome_is answer) }
 {
     match answer {
-        plan::read::Answer::Refused(refusal) => refused(refusal, 0),
-        plan::read::Answer::Pieces {
-            count: pieces,
-            puts: _,
-            fills: _,
-        } => count(READ, pieces as u64, 0),
+        Ok(pieces) => count(Event::Read, pieces.count as u64, 0),
+        Err(refusal) => refused(refusal, 0),
     }
 }
 
 // A plan that was packed, whose image has so many bytes.
-pub fn packed_parts(answer: plan::packed::Answer, image: u64) -> Parts
+pub fn packed_parts(answer: Result<usize, Refusal>, image: u64) -> Parts
     ensures { result ≡ packed_parts image (packer.outcome_is answer) }
 {
     match answer {
-        plan::packed::Answer::Refused(refusal) => refused(refusal, needed(refusal.number, image)),
-        plan::packed::Answer::Packed { size } => count(PACKED, 0, size as u64),
+        Ok(size) => count(Event::Packed, 0, size as u64),
+        Err(refusal) => refused(refusal, needed(refusal.cause, image)),
     }
 }
 
 // A flood-fill message.
-pub fn message_parts(answer: flood_fill::receiver::Answer) -> Parts
+pub fn message_parts(answer: Result<Progress, Refusal>) -> Parts
     ensures { result ≡ message_parts (answer_is answer) }
 {
     match answer {
-        flood_fill::receiver::Answer::Refused(refusal) => refused(refusal, 0),
-        flood_fill::receiver::Answer::Accepted => count(ACCEPTED, 0, 0),
-        flood_fill::receiver::Answer::Ignored => count(IGNORED, 0, 0),
-        flood_fill::receiver::Answer::Missing { number, lowest } => Parts {
-            refusal: 0,
+        Ok(Progress::Accepted) => count(Event::Accepted, 0, 0),
+        Ok(Progress::Ignored) => count(Event::Ignored, 0, 0),
+        Ok(Progress::Missing { number, lowest }) => Parts {
             place: lowest as u64,
-            event: MISSING,
-            kind: NO_KIND,
-            address: 0,
-            resume: 0,
-            items: number as u64,
-            bytes: 0,
+            ..count(Event::Missing, number as u64, 0)
         },
-        flood_fill::receiver::Answer::Done => count(DONE, 0, 0),
+        Ok(Progress::Done) => count(Event::Done, 0, 0),
+        Err(refusal) => refused(refusal, 0),
     }
 }
 
 // An image that was checked against a plan.
-pub fn checked_parts(answer: aplx_check::check::Checked) -> Parts
+pub fn checked_parts(answer: Result<(), Refusal>) -> Parts
     ensures { result ≡ checked_parts (checked_is answer) }
 {
     match answer {
-        aplx_check::check::Checked::Refused(refusal) => refused(refusal, 0),
-        aplx_check::check::Checked::Accepted => count(CHECKED, 0, 0),
+        Ok(()) => count(Event::Checked, 0, 0),
+        Err(refusal) => refused(refusal, 0),
     }
 }
