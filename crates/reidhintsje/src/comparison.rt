@@ -6,21 +6,18 @@ ghost use Rattle.outcome_numbers.specs.Numbers.{first};
 ghost use Rattle.reidhintsje.specs.Calls.{compare_call};
 ghost use Rattle.reidhintsje.specs.Calls.Comparison.{Few};
 
-use compare::compare::{Compared, STRETCH_SIZE};
+use compare::compare::{Found, Refused, STRETCH_SIZE};
 use outcome_numbers::comparison::compared_parts;
 use outcome_numbers::numbers::put;
 
 // The bytes of the stretches that were found.
-fn written(answer: Compared) -> u64
+fn written(answer: Result<Found, Refused>) -> u64
     requires { Few answer }
     ensures { result ≡ stretch_size * stretch_count (outcome_is answer) }
 {
     match answer {
-        Compared::Refused {
-            which: _,
-            refusal: _,
-        } => 0,
-        Compared::Found { count, same_run: _ } => (STRETCH_SIZE * count) as u64,
+        Ok(found) => (STRETCH_SIZE * found.count) as u64,
+        Err(_) => 0,
     }
 }
 

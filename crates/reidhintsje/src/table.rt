@@ -4,8 +4,7 @@ ghost use Rattle.map_table.specs.Table.{addition, table_after};
 ghost use Rattle.reidhintsje.specs.Calls.{verdict_number, sound_call};
 
 use map_table::table::{add, map_of};
-use memory_map::map::Verdict;
-use memory_map::refusal::MAP_NOT_SOUND;
+use outcome::refusal::Cause;
 
 // Adds a region, and writes the table of the map that has it. A refused addition leaves the table as it was.
 pub fn reidhintsje_map_add(map: &mut [u8], base: u32, length: u32, place: u32, rights: u32) -> u32
@@ -13,8 +12,8 @@ pub fn reidhintsje_map_add(map: &mut [u8], base: u32, length: u32, place: u32, r
     ensures map_after { map.new ≡ table_after map.old (addition map.old base length place rights) }
 {
     match add(map, base, length, place, rights) {
-        Verdict::Taken => 0,
-        Verdict::Refused(refusal) => refusal.number,
+        Ok(()) => 0,
+        Err(refusal) => refusal.cause.number(),
     }
 }
 
@@ -26,6 +25,6 @@ pub fn reidhintsje_map_sound(map: &[u8], memory_length: usize) -> u32
     if regions.sound(memory_length) {
         0
     } else {
-        MAP_NOT_SOUND
+        Cause::MapNotSound.number()
     }
 }

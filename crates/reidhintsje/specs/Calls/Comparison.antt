@@ -1,19 +1,19 @@
 -- Laws of the call that compares two plans: at most 512 stretches are found, and their bytes are 16 for each.
-use Rattle.std.specs.Prelude.{◌≡◌, refl, List, ℕ, ◌*◌, ◌≤◌, length}
+use Rattle.std.specs.Prelude.{◌≡◌, refl, List, ℕ, ◌*◌, ◌≤◌, length, Result}
 use Rattle.std.proofs.Common.{ap, sym, ◌∙◌}
-use Rattle.compare.specs.declared.compare.Compared as CodeCompared
-use Rattle.compare.specs.declared.compare.Compared.TheVariants as answer
+use Rattle.compare.specs.declared.compare.Found as CodeFound
+use Rattle.compare.specs.declared.compare.Refused as CodeRefused
 use Rattle.compare.specs.Code.{Outcome, outcome_of, stretch_count, outcome_is}
 use Rattle.compare.proofs.CodeAnswers.{compared-most}
 use Rattle.compare.specs.Compare.{Compared, refuses, finds, most_stretches, stretch_size, compared}
 use Rattle.compare.proofs.CompareOutput.{length-stretch_bytes}
 use Rattle.reidhintsje.specs.Calls.{found_bytes}
 
-abbrev pub Few : CodeCompared.Compared → Type 0
+abbrev pub Few : Result CodeFound.Found CodeRefused.Refused → Type 0
 Few r = stretch_count (outcome_is r) ≤ most_stretches
 
 -- ---- the answer of a call
-module _ (r : CodeCompared.Compared) (n : ℕ) (old new : List ℕ) (e : outcome_is r ≡ outcome_of (compared n old new)) where
+module _ (r : Result CodeFound.Found CodeRefused.Refused) (n : ℕ) (old new : List ℕ) (e : outcome_is r ≡ outcome_of (compared n old new)) where
   pub few : Few r
   few = rw e (compared-most n old new)
 

@@ -4,10 +4,10 @@ use Rattle.memory_map.specs.Map.{verdict_of}
 use Rattle.reidhintsje.specs.Calls.{verdict_number}
 use Rattle.reidhintsje.proofs.table.reidhintsje_map_add.Goals as goal
 
-pub returns-in-Taken : goal.returns-in-Taken
-returns-in-Taken c = let e = c.add.ensures in
-    record { value = ap verdict_number (sym (ap verdict_of c.in-Taken.is) ∙ e.result_value); map_after = e.table_after }
+pub returns-in-Ok : goal.returns-in-Ok
+returns-in-Ok c = let e = c.add.ensures in
+    record { value = ap verdict_number (sym (ap verdict_of c.in-Ok.is) ∙ e.result_value); map_after = e.table_after }
 
-pub returns-in-Refused : goal.returns-in-Refused
-returns-in-Refused c = let e = c.add.ensures in
-    record { value = ap verdict_number (sym (ap verdict_of c.in-Refused.is) ∙ e.result_value); map_after = e.table_after }
+pub returns-in-Err : goal.returns-in-Err
+returns-in-Err c = let e = c.add.ensures in
+    record { value = c.number.ensures ∙ ap verdict_number (sym (ap verdict_of c.in-Err.is) ∙ e.result_value); map_after = e.table_after }

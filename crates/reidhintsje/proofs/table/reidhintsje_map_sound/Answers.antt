@@ -9,4 +9,4 @@ returns-then-sound c = let e = rw c.map_of-regions.ensures at c.sound.ensures in
 
 pub returns-else-sound : goal.returns-else-sound
 returns-else-sound c = let e = rw c.map_of-regions.ensures at c.sound.ensures in
-    ap sound_number (sym c.if-sound.false ∙ e)
+    c.number.ensures ∙ ap sound_number (sym c.if-sound.false ∙ e)
