@@ -20,6 +20,7 @@ pub struct Header {
 
 impl Header {
     // The header with this block open.
+    #[tactic(auto, unfolding(crate::specs::Refusals::test_block_start))]
     pub(crate) fn with_open(self, block: u32, size: u32) -> Header
         requires { test_block_start self block size ≡ passed }
         ensures { result ≡ headed self.count self.size (opened_block block size) }
