@@ -1,15 +1,14 @@
 -- Computed examples: limits, each refusal and its place in the order, and series of messages for two blocks of two words, of which the
 -- second has one only.
-use Rattle.std.specs.Prelude.{◌≡◌, refl, true, false, List, [], ◌∷◌, ℕ, replicate}
+use Rattle.std.specs.Prelude.{◌≡◌, refl, true, false, List, [], ◌∷◌, ℕ, replicate, None, Err}
 use Rattle.words.specs.Open as WordsGroup
 use Rattle.words.specs.Store.{store_if_fits}
 use Rattle.flood_fill.specs.declared.message.Message.{Message}
 use Rattle.flood_fill.specs.declared.message.Message.TheVariants.{Start, BlockStart, BlockData, BlockEnd}
-use Rattle.flood_fill.specs.declared.header.Opened.TheVariants.{Nothing, Block}
-use Rattle.flood_fill.specs.declared.test.Tested.TheVariants.{Refused, Passed}
+use Rattle.outcome.specs.declared.refusal.Cause.TheVariants.{ImageTooShort, OutsideLimits, NoStart, NoSuchBlock, WrongSize, NotOpen}
 use Rattle.flood_fill.specs.declared.receiver.Receiver.{Receiver}
 use Rattle.flood_fill.specs.Limits.{within_limits, right_size}
-use Rattle.flood_fill.specs.Refusals.{test_start, test_block_start, test_block_end, tested}
+use Rattle.flood_fill.specs.Refusals.{opened_block, passed, test_start, test_block_start, test_block_end, tested}
 use Rattle.flood_fill.specs.Answer.{Answer, refused, accepted, ignored, missing, done}
 use Rattle.flood_fill.specs.Receive.{headed, afresh, missing_in, lowest_in, word_bytes, result, opening, completing, block_started, data_came, completed, block_ended, receive}
 
@@ -50,27 +49,27 @@ limits = record {
 
 -- ---- refusals: with no Start, and after one for two blocks of two words, of which block 1 is open; an image of 16 bytes holds them
 record Refusals : Type 0 where
-  pub short-start : tested (headed 0 0 Nothing) (Start 1 2) 15 ≡ Refused 24
-  pub long-enough : tested (headed 0 0 Nothing) (Start 1 2) 16 ≡ Passed
+  pub short-start : tested (headed 0 0 None) (Start 1 2) 15 ≡ Err ImageTooShort
+  pub long-enough : tested (headed 0 0 None) (Start 1 2) 16 ≡ passed
   -- by its own numbers, and not by those of the Start before; 24 comes before 25, also for numbers whose product no word holds
-  pub own-numbers : tested (headed 2 2 Nothing) (Start 0 1) 4 ≡ Passed
-  pub short-first : tested (headed 0 0 Nothing) (Start 256 1) 1027 ≡ Refused 24
-  pub outside : tested (headed 0 0 Nothing) (Start 256 1) 1028 ≡ Refused 25
-  pub largest : tested (headed 0 0 Nothing) (Start 4294967295 4294967295) 18446744073709551615 ≡ Refused 24
-  pub no_words : tested (headed 0 0 Nothing) (Start 0 0) 0 ≡ Refused 25
+  pub own-numbers : tested (headed 2 2 None) (Start 0 1) 4 ≡ passed
+  pub short-first : tested (headed 0 0 None) (Start 256 1) 1027 ≡ Err ImageTooShort
+  pub outside : tested (headed 0 0 None) (Start 256 1) 1028 ≡ Err OutsideLimits
+  pub largest : tested (headed 0 0 None) (Start 4294967295 4294967295) 18446744073709551615 ≡ Err ImageTooShort
+  pub no_words : tested (headed 0 0 None) (Start 0 0) 0 ≡ Err OutsideLimits
   -- before any Start no image is too short
-  pub no_start : tested (headed 0 0 Nothing) (BlockStart 0 1) 0 ≡ Refused 26
-  pub data-first : tested (headed 0 0 Nothing) (BlockData 0 0 1) 0 ≡ Passed
-  pub end-first : tested (headed 0 0 Nothing) (BlockEnd 0) 0 ≡ Refused 29
+  pub no_start : tested (headed 0 0 None) (BlockStart 0 1) 0 ≡ Err NoStart
+  pub data-first : tested (headed 0 0 None) (BlockData 0 0 1) 0 ≡ passed
+  pub end-first : tested (headed 0 0 None) (BlockEnd 0) 0 ≡ Err NotOpen
   -- every message of a Start needs its image, and 24 comes before the others
-  pub short-block-start : tested (headed 2 2 (Block 1 2)) (BlockStart 2 9) 15 ≡ Refused 24
-  pub short-data : tested (headed 2 2 (Block 1 2)) (BlockData 0 0 1) 15 ≡ Refused 24
-  pub short-end : tested (headed 2 2 (Block 1 2)) (BlockEnd 0) 15 ≡ Refused 24
+  pub short-block-start : tested (headed 2 2 (opened_block 1 2)) (BlockStart 2 9) 15 ≡ Err ImageTooShort
+  pub short-data : tested (headed 2 2 (opened_block 1 2)) (BlockData 0 0 1) 15 ≡ Err ImageTooShort
+  pub short-end : tested (headed 2 2 (opened_block 1 2)) (BlockEnd 0) 15 ≡ Err ImageTooShort
   -- 27 comes before 28
-  pub no_block : tested (headed 2 2 (Block 1 2)) (BlockStart 2 9) 16 ≡ Refused 27
-  pub wrong_size : tested (headed 2 2 (Block 1 2)) (BlockStart 0 1) 16 ≡ Refused 28
-  pub not-open : tested (headed 2 2 (Block 1 2)) (BlockEnd 0) 16 ≡ Refused 29
-  pub is_open : tested (headed 2 2 (Block 1 2)) (BlockEnd 1) 16 ≡ Passed
+  pub no_block : tested (headed 2 2 (opened_block 1 2)) (BlockStart 2 9) 16 ≡ Err NoSuchBlock
+  pub wrong_size : tested (headed 2 2 (opened_block 1 2)) (BlockStart 0 1) 16 ≡ Err WrongSize
+  pub not-open : tested (headed 2 2 (opened_block 1 2)) (BlockEnd 0) 16 ≡ Err NotOpen
+  pub is_open : tested (headed 2 2 (opened_block 1 2)) (BlockEnd 1) 16 ≡ passed
 
 refusals : Refusals
 unfolding test_start test_block_start test_block_end tested

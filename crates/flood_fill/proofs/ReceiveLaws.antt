@@ -5,10 +5,10 @@ use Rattle.words.specs.Bytes.{little_endian}
 use Rattle.words.proofs.BytesLaws.{length-little_endian}
 use Rattle.flood_fill.specs.Receive.{word_bytes}
 
-pub length-word_bytes : (ws : List ℕ) → length (word_bytes ws) ≡ 4 * length ws
+pub length_word_bytes : (ws : List ℕ) → length (word_bytes ws) ≡ 4 * length ws
 unfolding word_bytes
-length-word_bytes [] = refl
-length-word_bytes (w ∷ ws) = simp (length-append, length-little_endian, length-word_bytes ws) (omega arith)
+length_word_bytes [] = refl
+length_word_bytes (w ∷ ws) = simp (length-append, length-little_endian, length_word_bytes ws) (omega arith)
 
 pub word_bytes-append : (a b : List ℕ) → word_bytes (a ++ b) ≡ word_bytes a ++ word_bytes b
 unfolding word_bytes

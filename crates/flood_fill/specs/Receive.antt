@@ -1,28 +1,26 @@
 -- What a message does to the receiver and to the lent image, and what it is answered (paper 02, C-14).
-use Rattle.std.specs.Prelude.{◌≡◌, Bool, true, false, not, ◌&&◌, List, [], ◌∷◌, ◌++◌, ℕ, suc, ◌*◌, ltb, length, take, get_or, set, replicate, if◌then◌else◌}
+use Rattle.std.specs.Prelude.{◌≡◌, Bool, true, false, not, ◌&&◌, List, [], ◌∷◌, ◌++◌, ℕ, suc, ◌*◌, ltb, length, take, get_or, set, replicate, if◌then◌else◌, Option, None, Ok, Err}
+use Rattle.outcome.specs.Refusal.{number_of}
 use Rattle.words.specs.Bytes.{little_endian}
 use Rattle.words.specs.Store.{store_if_fits}
 use Rattle.flood_fill.specs.declared.message.Message.{Message}
 use Rattle.flood_fill.specs.declared.message.Message.TheVariants.{Start, BlockStart, BlockData, BlockEnd}
-use Rattle.flood_fill.specs.declared.header.Opened.{Opened}
-use Rattle.flood_fill.specs.declared.header.Opened.TheVariants.{Nothing, Block}
+use Rattle.flood_fill.specs.declared.header.Block.{Block}
 use Rattle.flood_fill.specs.declared.header.Header.{Header}
-use Rattle.flood_fill.specs.declared.test.Tested.{Tested}
-use Rattle.flood_fill.specs.declared.test.Tested.TheVariants.{Refused, Passed}
 use Rattle.flood_fill.specs.declared.receiver.Receiver.{Receiver}
-use Rattle.flood_fill.specs.declared.receiver.Received.{Received}
-use Rattle.flood_fill.specs.Refusals.{open_size, is_wanted, tested}
-use Rattle.flood_fill.specs.Answer.{Answer, refused, accepted, ignored, missing, done, answer_is}
+use Rattle.flood_fill.specs.declared.receiver.Progress.{Progress}
+use Rattle.flood_fill.specs.Refusals.{opened_block, open_size, is_wanted, Tested, tested}
+use Rattle.flood_fill.specs.Answer.{Answer, refused, accepted, ignored, missing, done, Answered, progress_is, answer_is}
 
 -- ---- the state
-abbrev pub headed : ℕ → ℕ → Opened → Header
+abbrev pub headed : ℕ → ℕ → Option Block → Header
 headed count size opened = record { count = count; size = size; opened = opened }
 
 -- "Start begins afresh": nothing is done, open or marked
 abbrev pub afresh : ℕ → ℕ → Receiver
 afresh count size =
     record {
-      header = headed count size Nothing;
+      header = headed count size None;
       done = replicate 256 false;
       marks = replicate 256 false;
       words = replicate 256 0;
@@ -73,7 +71,7 @@ started image last n = result (afresh (suc last) n) image accepted
 abbrev pub opening : Receiver → ℕ → ℕ → Receiver
 opening r b n =
     record {
-      header = headed r.header.count r.header.size (Block b n);
+      header = headed r.header.count r.header.size (opened_block b n);
       done = r.done;
       marks = replicate 256 false;
       words = r.words;
@@ -103,7 +101,7 @@ data_came r image b w v =
 abbrev pub completing : Receiver → ℕ → Receiver
 completing r b =
     record {
-      header = headed r.header.count r.header.size Nothing;
+      header = headed r.header.count r.header.size None;
       done = set r.done b true;
       marks = r.marks;
       words = r.words;
@@ -130,16 +128,20 @@ performed r image (BlockEnd b) = block_ended r image b (open_size r.header.opene
 
 -- "refused with 24 to 29 and changing nothing"; a refusal names no place
 abbrev pub result_at : Tested → Receiver → List ℕ → Message → Result
-result_at (Refused number) r image m = result r image (refused number 0)
-result_at Passed r image m = performed r image m
+result_at (Err cause) r image m = result r image (refused (number_of cause) 0)
+result_at (Ok _) r image m = performed r image m
 
 unfoldable pub receive : Receiver → List ℕ → Message → Result
 receive r image m = result_at (tested r.header m (length image)) r image m
 
--- ---- what the code answers, with the image that it leaves
-abbrev pub result_is : Received → List ℕ → Result
-result_is x image = result x.receiver image (answer_is x.answer)
+-- ---- what the code answers, with the receiver and the image that it leaves
+abbrev pub result_is : Receiver → Answered → List ℕ → Result
+result_is r x image = result r image (answer_is x)
+
+-- a message that was not refused
+abbrev pub step_is : Receiver → Progress → List ℕ → Result
+step_is r x image = result r image (progress_is x)
 
 -- a message that writes no image: its result is the same with every image, which stays as it is
-abbrev pub WithAnyImage : Received → (List ℕ → Result) → Type 0
-WithAnyImage x f = (image : List ℕ) → result_is x image ≡ f image
+abbrev pub WithAnyImage : Receiver → Progress → (List ℕ → Result) → Type 0
+WithAnyImage r x f = (image : List ℕ) → step_is r x image ≡ f image

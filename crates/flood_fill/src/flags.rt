@@ -1,39 +1,58 @@
-// Flags in a row.
-ghost use Rattle.std.specs.Prelude.{◌≡◌, true, ◌≤◌, length, get_or};
+// Flags in a row: each a bool, or a byte.
+ghost use Rattle.std.specs.Prelude.{◌≡◌, Bool, true, not, eqb, ◌≤◌, length, map, get_or, position};
 ghost use Rattle.flood_fill.specs.Receive.{missing_in, lowest_in};
 
+// A flag, as it stands in memory.
+pub trait Flag {
+    ghost reads: { Self → Bool };
+
+    fn is_set(&self) -> bool
+        ensures { result ≡ reads self.now };
+}
+
+impl Flag for bool {
+    ghost reads = { λ flag. flag };
+
+    fn is_set(&self) -> bool {
+        *self
+    }
+}
+
+// A byte is a flag that is set unless it is 0.
+impl Flag for u8 {
+    ghost reads = { λ byte. not (eqb byte 0) };
+
+    fn is_set(&self) -> bool {
+        *self != 0
+    }
+}
+
 // The flag at a place. Past the end it counts as set.
-pub(crate) fn is_set(flags: &[bool], at: usize) -> bool
-    ensures { result ≡ get_or flags.now at true }
+pub fn is_set<F: Flag>(flags: &[F], at: usize) -> bool
+    ensures { result ≡ get_or (map F.reads flags.now) at true }
 {
-    if at < flags.len() { flags[at] } else { true }
+    flags.get(at).is_none_or(|flag| flag.is_set())
 }
 
 // The number of flags that are not set.
-pub(crate) fn missing(flags: &[bool]) -> usize
-    ensures { (result ≡ missing_in flags.now) × (result ≤ length flags.now) }
+pub fn missing<F: Flag>(flags: &[F]) -> usize
+    ensures number { result ≡ missing_in (map F.reads flags.now) }
+    ensures at_most { result ≤ length flags.now }
 {
-    let mut number: usize = 0;
-    let mut i: usize = 0;
-    while i < flags.len() {
-        if !flags[i] {
-            number += 1;
-        }
-        i += 1;
-    }
-    number
+    flags.iter().filter(|flag| !flag.is_set()).count()
 }
 
-// The lowest of them.
-pub(crate) fn lowest(flags: &[bool]) -> usize
-    ensures { (result ≡ lowest_in flags.now) × (result ≤ length flags.now) }
+// The place of the first of them.
+fn first_missing<F: Flag>(flags: &[F]) -> Option<usize>
+    ensures { result ≡ position (λ flag. not (F.reads flag)) flags.now }
 {
-    let mut i: usize = 0;
-    while i < flags.len() {
-        if !flags[i] {
-            return i;
-        }
-        i += 1;
-    }
-    i
+    flags.iter().position(|flag| !flag.is_set())
+}
+
+// The lowest of them, or the number of all flags.
+pub fn lowest<F: Flag>(flags: &[F]) -> usize
+    ensures place { result ≡ lowest_in (map F.reads flags.now) }
+    ensures at_most { result ≤ length flags.now }
+{
+    first_missing(flags).unwrap_or(flags.len())
 }

@@ -1,5 +1,5 @@
 // The messages, taken apart. Numbers are as they came: nothing is granted of them.
-#[derive(Clone, Copy)]
+#[derive(Clone, Copy, Debug, PartialEq, Eq)]
 pub enum Message {
     // the number of blocks less 1, and the full size of a block in words
     Start { last_block: u32, size: u32 },

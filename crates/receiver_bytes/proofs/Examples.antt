@@ -1,11 +1,10 @@
 -- Computed examples: the layout of a receiver's bytes, and a block of two words that is received in them.
-use Rattle.std.specs.Prelude.{◌≡◌, refl, true, false, List, [], ◌∷◌, ℕ, take, drop, replicate}
+use Rattle.std.specs.Prelude.{◌≡◌, refl, true, false, List, [], ◌∷◌, ℕ, take, drop, replicate, None}
 use Rattle.words.specs.Bytes.{little_endian, little_endian_at, from_little_endian, first_bytes}
 use Rattle.words.specs.Store.{store, store_if_fits}
 use Rattle.flood_fill.specs.declared.message.Message.{Message}
 use Rattle.flood_fill.specs.declared.message.Message.TheVariants.{Start, BlockStart, BlockData, BlockEnd}
-use Rattle.flood_fill.specs.declared.header.Opened.TheVariants.{Nothing, Block}
-use Rattle.flood_fill.specs.Refusals.{test_start, test_block_start, test_block_end, tested}
+use Rattle.flood_fill.specs.Refusals.{opened_block, test_start, test_block_start, test_block_end, tested}
 use Rattle.flood_fill.specs.Answer.{refused, accepted, missing, done}
 use Rattle.flood_fill.specs.Receive.{headed, missing_in, lowest_in, word_bytes, block_started, data_came, completed, block_ended, receive}
 use Rattle.receiver_bytes.specs.Receiver.{header_in, flags_in, words_in, receiver_in, written, Left, receive_bytes}
@@ -13,9 +12,9 @@ use Rattle.receiver_bytes.specs.Receiver.{header_in, flags_in, words_in, receive
 -- ---- the layout
 pub record Layout : Type 0 where
   -- 3 blocks of 256 words, block 2 open with 7 words
-  pub header : header_in (3 ∷ 0 ∷ 0 ∷ 1 ∷ 2 ∷ 0 ∷ 7 ∷ 0 ∷ []) ≡ headed 3 256 (Block 2 7)
+  pub header : header_in (3 ∷ 0 ∷ 0 ∷ 1 ∷ 2 ∷ 0 ∷ 7 ∷ 0 ∷ []) ≡ headed 3 256 (opened_block 2 7)
   -- a size of 0: none is open
-  pub none_open : header_in (3 ∷ 0 ∷ 0 ∷ 1 ∷ 2 ∷ 0 ∷ 0 ∷ 0 ∷ []) ≡ headed 3 256 Nothing
+  pub none_open : header_in (3 ∷ 0 ∷ 0 ∷ 1 ∷ 2 ∷ 0 ∷ 0 ∷ 0 ∷ []) ≡ headed 3 256 None
   pub flags : flags_in (0 ∷ 1 ∷ 255 ∷ []) ≡ false ∷ true ∷ true ∷ []
   pub words : words_in 2 (9 ∷ 4 ∷ 3 ∷ 2 ∷ 1 ∷ 8 ∷ 7 ∷ 6 ∷ 5 ∷ []) 1 ≡ 0x01020304 ∷ 0x05060708 ∷ []
   -- a Start's two numbers: 256 blocks of 32 words

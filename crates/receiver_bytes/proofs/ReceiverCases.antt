@@ -1,17 +1,15 @@
 -- What a message leaves of the bytes, by the tests that the code makes.
-use Rattle.std.specs.Prelude.{◌≡◌, Bool, true, false, List, ℕ, ◌*◌, ◌<◌, min, ltb, length, take, drop}
+use Rattle.std.specs.Prelude.{◌≡◌, true, false, List, ℕ, ◌*◌, ◌<◌, min, ltb, length, take, drop}
 use Rattle.std.proofs.Common.{sym, ◌∙◌, arith, length-take}
 use Rattle.std.proofs.Math.ListN.{length-drop}
 use Rattle.std.proofs.Math.Seq.{length-take-le}
 use Rattle.words.specs.Store.{store_if_fits}
 use Rattle.flood_fill.specs.declared.message.Message.{Message}
-use Rattle.flood_fill.specs.declared.message.Message.TheVariants.{Start, BlockStart, BlockData, BlockEnd}
+use Rattle.flood_fill.specs.declared.message.Message.TheVariants.{BlockEnd}
 use Rattle.flood_fill.specs.declared.header.Header.{Header}
-use Rattle.flood_fill.specs.declared.test.Tested.{Tested}
-use Rattle.flood_fill.specs.declared.test.Tested.TheVariants.{Refused, Passed}
-use Rattle.flood_fill.specs.Refusals.{open_size, is_wanted, tested}
-use Rattle.flood_fill.specs.Answer.{Answer, refused, accepted, ignored, missing, done}
-use Rattle.flood_fill.specs.Receive.{is_done, is_marked, missing_in, lowest_in, word_bytes, block_started, data_came, completed, block_ended, receive}
+use Rattle.flood_fill.specs.Refusals.{open_size, Tested, passed, tested}
+use Rattle.flood_fill.specs.Answer.{Answer, missing, done}
+use Rattle.flood_fill.specs.Receive.{is_marked, missing_in, lowest_in, word_bytes, completed, block_ended, receive}
 use Rattle.flood_fill.proofs.ReceiveFlags.{flag-there, take_min}
 use Rattle.receiver_bytes.specs.Receiver.{header_in, flags_in, receiver_in, written, Left, receive_bytes}
 use Rattle.receiver_bytes.proofs.ReceiverFlags.{length-flags}
@@ -23,47 +21,8 @@ left s image a = record { bytes = s; image = image; answer = a }
 -- ---- the tests of a message
 -- as the code makes them, on the header that it read
 module _ (s image : List ℕ) (m : Message) {h : Header} {t : Tested} (is : h ≡ header_in s) (e : t ≡ tested h m (length image)) where
-  pub when-refused : (n : ℕ) → t ≡ Refused n → receive_bytes s image m ≡ left s image (refused n 0)
-  unfolding receive_bytes receive receiver_in
-  when-refused n f = let g : tested (header_in s) m (length image) ≡ Refused n = rw is at (sym e ∙ f) in rw g
-
-  pub when-passed : t ≡ Passed → tested (header_in s) m (length image) ≡ Passed
+  pub when-passed : t ≡ passed → tested (header_in s) m (length image) ≡ passed
   when-passed f = rw is at (sym e ∙ f)
-
--- ---- a Start, and a Block Start
-module _ (s image : List ℕ) (b n : ℕ) where
-  pub start-accepted : tested (header_in s) (Start b n) (length image) ≡ Passed
-      → receive_bytes s image (Start b n) ≡ left (written s (Start b n)) image accepted
-  unfolding receive_bytes receive receiver_in
-  start-accepted e = rw e
-
-  module _ (e : tested (header_in s) (BlockStart b n) (length image) ≡ Passed) where
-    pub block-ignored : is_done (receiver_in s) b ≡ true → receive_bytes s image (BlockStart b n) ≡ left s image ignored
-    unfolding receive_bytes receive receiver_in block_started
-    block-ignored d = rw (e, d)
-
-    pub block-accepted : is_done (receiver_in s) b ≡ false
-        → receive_bytes s image (BlockStart b n) ≡ left (written s (BlockStart b n)) image accepted
-    unfolding receive_bytes receive receiver_in block_started
-    block-accepted d = rw (e, d)
-
--- ---- a word
-module _ (s image : List ℕ) (b w v : ℕ) (e : tested (header_in s) (BlockData b w v) (length image) ≡ Passed) where
-  abbrev wanted : Bool
-  wanted = is_wanted (header_in s).opened b w
-
-  pub data-unwanted : wanted ≡ false → receive_bytes s image (BlockData b w v) ≡ left s image ignored
-  unfolding receive_bytes receive receiver_in data_came
-  data-unwanted d = rw (e, d)
-
-  pub data-marked : wanted ≡ true → is_marked (receiver_in s) w ≡ true → receive_bytes s image (BlockData b w v) ≡ left s image ignored
-  unfolding receive_bytes receive receiver_in data_came
-  data-marked d f = rw (e, d, f)
-
-  pub data-accepted : wanted ≡ true → is_marked (receiver_in s) w ≡ false
-      → receive_bytes s image (BlockData b w v) ≡ left (written s (BlockData b w v)) image accepted
-  unfolding receive_bytes receive receiver_in data_came
-  data-accepted d f = rw (e, d, f)
 
 -- an empty mark is one of 256
 pub unmarked-below : (s : List ℕ) (w : ℕ) → is_marked (receiver_in s) w ≡ false → w < 256
@@ -73,7 +32,7 @@ unmarked-below s w e =
     omega (arith, length-flags (take 256 (drop 264 s)), length-take 256 (drop 264 s))
 
 -- ---- the end of a block, of which the first k words have a place
-module _ (s image : List ℕ) (b : ℕ) (long : length s ≡ 1544) (e : tested (header_in s) (BlockEnd b) (length image) ≡ Passed) where
+module _ (s image : List ℕ) (b : ℕ) (long : length s ≡ 1544) (e : tested (header_in s) (BlockEnd b) (length image) ≡ passed) where
   all-marks : length (receiver_in s).marks ≡ 256
   unfolding receiver_in
   all-marks = length-flags (take 256 (drop 264 s)) ∙ length-take-le 256 (drop 264 s) (omega (arith, length-drop 264 s))

@@ -1,6 +1,6 @@
 -- Messages to the bytes of a receiver are messages to the receiver that they are (`receive`): what a message leaves of the bytes is the
 -- receiver that it leaves, in 1,544 bytes again. All zeros are the empty receiver.
-use Rattle.std.specs.Prelude.{◌≡◌, true, false, ◌&&◌, List, ℕ, suc, ◌^◌, ◌<◌, ltb, length, take, replicate, if◌then◌else◌}
+use Rattle.std.specs.Prelude.{◌≡◌, true, false, ◌&&◌, List, ℕ, suc, ◌^◌, ◌<◌, ltb, length, take, replicate, if◌then◌else◌, Ok, Err}
 use Rattle.std.proofs.Math.Path.{refl}
 use Rattle.std.proofs.Math.Bool.{Bool, not}
 use Rattle.std.proofs.Common.{arith}
@@ -10,22 +10,14 @@ use Rattle.words.specs.Bytes.{little_endian}
 use Rattle.words.proofs.BytesLaws.{little-at-below}
 use Rattle.flood_fill.specs.declared.message.Message.{Message}
 use Rattle.flood_fill.specs.declared.message.Message.TheVariants.{Start, BlockStart, BlockData, BlockEnd}
-use Rattle.flood_fill.specs.declared.test.Tested.{Tested}
-use Rattle.flood_fill.specs.declared.test.Tested.TheVariants.{Refused, Passed}
-use Rattle.flood_fill.specs.Refusals.{open_size, is_wanted, tested}
+use Rattle.flood_fill.specs.Refusals.{open_size, is_wanted, Tested, passed, tested}
 use Rattle.flood_fill.proofs.RefusalsLaws.{passed-own, start-limits, block-fits}
 use Rattle.flood_fill.specs.Answer.{accepted}
 use Rattle.flood_fill.specs.Receive.{empty, is_done, is_marked, missing_in, Result, result, keeping, started, block_started, data_came, block_ended, completed, performed, result_at, receive}
 use Rattle.receiver_bytes.specs.Receiver.{header_in, receiver_in, written, bytes_at, receive_bytes}
+use Rattle.receiver_bytes.specs.Series.{WordFits}
 use Rattle.receiver_bytes.proofs.ReceiverCases.{unmarked-below}
 use Rattle.receiver_bytes.proofs.ReceiverWritten.{ReceiverBytes, begun-bytes, begun-is, opening-bytes, opening-is, keeping-bytes, keeping-is, completing-bytes, completing-is}
-
--- the word of a Block Data is one of 32 bits
-abbrev pub WordFits : Message → Type 0
-WordFits (Start last n) = Unit {0}
-WordFits (BlockStart b n) = Unit {0}
-WordFits (BlockData b w v) = v < 2 ^ 32
-WordFits (BlockEnd b) = Unit {0}
 
 -- the bytes that a message leaves are the receiver that it leaves
 pub record Agrees (s : List ℕ) (m : Message) (x : Result) : Type 0 where
@@ -46,7 +38,7 @@ module _ (s image : List ℕ) (are : ReceiverBytes s) where
   unfolding receiver_in header_in
   numbers-below = (little-at-below 2 0 s are.bytes, little-at-below 2 2 s are.bytes)
 
-  start-agrees : (last n : ℕ) → tested (receiver_in s).header (Start last n) (length image) ≡ Passed → Agrees s (Start last n) (started image last n)
+  start-agrees : (last n : ℕ) → tested (receiver_in s).header (Start last n) (length image) ≡ passed → Agrees s (Start last n) (started image last n)
   unfolding written
   start-agrees last n e =
       let l = start-limits last n (passed-own (receiver_in s).header (Start last n) (length image) e) in
@@ -55,7 +47,7 @@ module _ (s image : List ℕ) (are : ReceiverBytes s) where
         after = begun-bytes (suc last) n;
       }
 
-  block-start-agrees : (b n : ℕ) → tested (receiver_in s).header (BlockStart b n) (length image) ≡ Passed
+  block-start-agrees : (b n : ℕ) → tested (receiver_in s).header (BlockStart b n) (length image) ≡ passed
       → Agrees s (BlockStart b n) (block_started (receiver_in s) image b n)
   unfolding block_started
   block-start-agrees b n e =
@@ -81,7 +73,7 @@ module _ (s image : List ℕ) (are : ReceiverBytes s) where
   block-end-agrees b n =
       by-test (ltb 0 (missing_in (take n (receiver_in s).marks))) (λ _. same refl refl) (λ _. record { receiver = completing-is s are b; after = completing-bytes s are b })
 
-  performed-agrees : (m : Message) → WordFits m → tested (receiver_in s).header m (length image) ≡ Passed → Agrees s m (performed (receiver_in s) image m)
+  performed-agrees : (m : Message) → WordFits m → tested (receiver_in s).header m (length image) ≡ passed → Agrees s m (performed (receiver_in s) image m)
   performed-agrees (Start last n) h e = start-agrees last n e
   performed-agrees (BlockStart b n) h e = block-start-agrees b n e
   performed-agrees (BlockData b w v) h e = data-agrees b w v h
@@ -92,8 +84,8 @@ module _ (s image : List ℕ) (are : ReceiverBytes s) where
   agrees m h = go (tested (receiver_in s).header m (length image)) refl
     where
       go : (t : Tested) → tested (receiver_in s).header m (length image) ≡ t → Agrees s m (result_at t (receiver_in s) image m)
-      go (Refused number) e = same refl refl
-      go Passed e = performed-agrees m h e
+      go (Err cause) e = same refl refl
+      go (Ok _) e = performed-agrees m h e
 
 -- ---- what a message leaves of 1,544 bytes
 module _ (s image : List ℕ) (are : ReceiverBytes s) (m : Message) (h : WordFits m) where

@@ -1,5 +1,5 @@
 -- Laws of the parts of a receiver's bytes: what a store leaves of each, and how the parts make the receiver.
-use Rattle.std.specs.Prelude.{◌≡◌, refl, Bool, true, false, List, [], ◌∷◌, ℕ, zero, suc, ◌+◌, ◌*◌, ◌^◌, ◌≤◌, ◌<◌, ltb, eqb, take, drop, get_or, set}
+use Rattle.std.specs.Prelude.{◌≡◌, refl, Bool, true, false, List, [], ◌∷◌, ℕ, zero, suc, ◌+◌, ◌*◌, ◌^◌, ◌≤◌, ◌<◌, ltb, eqb, take, drop, get_or, set, Option}
 use Rattle.std.proofs.Common.{ap, sym, ◌∙◌, append-nil, add-zero, arith, length-set, drop-drop, get_or-set_same, get_or-set_other, ext_get_or, ltb-true, ltb-false, eqb-true}
 use Rattle.std.proofs.Math.ListN.{length}
 use Rattle.std.proofs.lemmas.List.{drop-set-add}
@@ -11,7 +11,7 @@ use Rattle.words.proofs.BytesLaws.{length-little_endian, little-at-same, little-
 use Rattle.words.specs.Store.{store}
 use Rattle.words.proofs.StoreLaws.{length-store, part-inside, part-outside, drop-store, sets-store}
 use Rattle.words.proofs.RangeLaws.{Apart, before, behind}
-use Rattle.flood_fill.specs.declared.header.Opened.{Opened}
+use Rattle.flood_fill.specs.declared.header.Block.{Block}
 use Rattle.flood_fill.specs.declared.header.Header.{Header}
 use Rattle.flood_fill.specs.Receive.{headed}
 use Rattle.receiver_bytes.specs.Receiver.{opened_in, header_in, flags_in, words_in, receiver_in}
@@ -19,7 +19,7 @@ use Rattle.receiver_bytes.proofs.ReceiverFlags.{set-flag}
 use Rattle.receiver_bytes.proofs.ReceiverWords.{length-words, word_at}
 
 -- ---- the receiver by its parts
-pub header_is : (s : List ℕ) {c n : ℕ} {o : Opened} → little_endian_at 2 s 0 ≡ c → little_endian_at 2 s 2 ≡ n
+pub header_is : (s : List ℕ) {c n : ℕ} {o : Option Block} → little_endian_at 2 s 0 ≡ c → little_endian_at 2 s 2 ≡ n
     → opened_in (little_endian_at 2 s 4) (little_endian_at 2 s 6) ≡ o → header_in s ≡ headed c n o
 unfolding header_in
 header_is s a b c = rw (a, b, c)

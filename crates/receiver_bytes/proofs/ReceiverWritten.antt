@@ -1,5 +1,5 @@
 -- What the bytes are after a message that was done: the receiver that it leaves, in 1,544 bytes again.
-use Rattle.std.specs.Prelude.{◌≡◌, Bool, List, [], ◌∷◌, ◌++◌, ℕ, zero, suc, ◌+◌, ◌*◌, ◌^◌, ◌≤◌, ◌<◌, take, drop, if◌then◌else◌}
+use Rattle.std.specs.Prelude.{◌≡◌, Bool, List, [], ◌∷◌, ◌++◌, ℕ, zero, suc, ◌+◌, ◌*◌, ◌^◌, ◌≤◌, ◌<◌, take, drop, if◌then◌else◌, None}
 use Rattle.std.proofs.Math.Path.{refl, ap}
 use Rattle.std.proofs.Common.{sym, ◌∙◌, arith, length-append, length-take}
 use Rattle.std.proofs.Math.Bool.{true, false}
@@ -15,7 +15,7 @@ use Rattle.words.specs.Store.{store}
 use Rattle.words.proofs.StoreLaws.{length-store, part-inside}
 use Rattle.words.proofs.RangeLaws.{before, behind}
 use Rattle.flood_fill.specs.declared.message.Message.TheVariants.{BlockStart, BlockData, BlockEnd}
-use Rattle.flood_fill.specs.declared.header.Opened.TheVariants.{Nothing, Block}
+use Rattle.flood_fill.specs.Refusals.{opened_block}
 use Rattle.flood_fill.specs.Receive.{afresh, opening, keeping, completing}
 use Rattle.receiver_bytes.specs.Receiver.{opened_in, header_in, flags_in, words_in, receiver_in, written}
 use Rattle.receiver_bytes.proofs.ReceiverFlags.{length-flags, no-flags}
@@ -56,7 +56,7 @@ module _ (c n : ℕ) where
   unfolding little_endian
   size-at h = little-at-behind 2 0 (little_endian 2 c) (little_endian 2 n ++ replicate 1540 0) ∙ little-at-front 2 n (replicate 1540 0) h
 
-  none_open : opened_in (little_endian_at 2 begun 4) (little_endian_at 2 begun 6) ≡ Nothing
+  none_open : opened_in (little_endian_at 2 begun 4) (little_endian_at 2 begun 6) ≡ None
   unfolding little_endian little_endian_at from_little_endian first_bytes
   none_open = refl
 
@@ -93,7 +93,7 @@ module _ (s : List ℕ) (are : ReceiverBytes s) (b n : ℕ) where
   unfolding written numbers
   opening-bytes = stored (store s 4 numbers) 264 (replicate 256 0) headed-bytes (omega arith) (zeros 256)
 
-  opened-is : 1 ≤ n → b < 65536 → n < 65536 → opened_in (little_endian_at 2 (store s 4 numbers) 4) (little_endian_at 2 (store s 4 numbers) 6) ≡ Block b n
+  opened-is : 1 ≤ n → b < 65536 → n < 65536 → opened_in (little_endian_at 2 (store s 4 numbers) 4) (little_endian_at 2 (store s 4 numbers) 6) ≡ opened_block b n
   unfolding numbers little_endian
   opened-is l h g =
       let f : 4 + length numbers ≤ length s = omega (arith, are.long, four) in
@@ -154,10 +154,10 @@ module _ (s : List ℕ) (are : ReceiverBytes s) where
   size-closed : little_endian_at 2 closed 6 ≡ 0
   size-closed = number-stored s 4 (replicate 4 0) fits 2 2 (omega arith) ∙ zero-size
 
-  header-open-none : opened_in (little_endian_at 2 closed 4) (little_endian_at 2 closed 6) ≡ Nothing
+  header-open-none : opened_in (little_endian_at 2 closed 4) (little_endian_at 2 closed 6) ≡ None
   header-open-none = rw size-closed
 
-  header-closed : header_in closed ≡ record { count = (header_in s).count; size = (header_in s).size; opened = Nothing }
+  header-closed : header_in closed ≡ record { count = (header_in s).count; size = (header_in s).size; opened = None }
   unfolding header_in
   header-closed =
       header_is closed (number-left s 4 (replicate 4 0) fits 2 0 (omega (arith, are.long)) (before (omega arith))) (number-left s 4 (replicate 4 0) fits 2 2 (omega (arith, are.long)) (before (omega arith))) header-open-none

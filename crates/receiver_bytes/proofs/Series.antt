@@ -1,35 +1,18 @@
--- Series of calls on the bytes of a receiver: each is a series of messages to the receiver that they are. So what paper 02 (C-14) says of
+-- Each series of calls on the bytes of a receiver is a series of messages to the receiver that they are. So what paper 02 (C-14) says of
 -- series holds of the bytes that a caller keeps.
-use Rattle.std.specs.Prelude.{◌≡◌, refl, false, List, [], ◌∷◌, ℕ, ◌≤◌, replicate}
+use Rattle.std.specs.Prelude.{◌≡◌, refl, List, [], ◌∷◌, ℕ, replicate}
 use Rattle.std.proofs.Common.{ap, ◌∙◌}
 use Rattle.words.specs.Choice.{All}
 use Rattle.flood_fill.specs.declared.message.Message.{Message}
 use Rattle.flood_fill.specs.declared.message.Message.TheVariants.{Start}
 use Rattle.flood_fill.specs.declared.receiver.Receiver.{Receiver}
 use Rattle.flood_fill.specs.Receive.{empty, is_done, receive}
-use Rattle.flood_fill_series.specs.Claims.{Call, after, messages_of, NotRefused, Held, leaves, held_after, Image, OfImage, Visited, StandsWhole}
+use Rattle.flood_fill_series.specs.Claims.{Call, after, messages_of, Held, leaves, held_after}
 use Rattle.flood_fill_series.proofs.Ours.{ours}
 use Rattle.receiver_bytes.specs.Receiver.{receiver_in, receive_bytes}
+use Rattle.receiver_bytes.specs.Series.{WordFits, bytes_after, HeldBytes, leaves_bytes, held_bytes_after, WholeInBytes}
 use Rattle.receiver_bytes.proofs.ReceiverWritten.{ReceiverBytes}
-use Rattle.receiver_bytes.proofs.ReceiverLaws.{WordFits, receiver-left, bytes_left, image-left, answer-left, empty-bytes, empty-is}
-
--- ---- series
--- the bytes, handed on as each call left them
-unfoldable pub bytes_after : List ℕ → List Call → List ℕ
-bytes_after s [] = s
-bytes_after s (c ∷ cs) = bytes_after (receive_bytes s c.image c.message).bytes cs
-
--- the image handed on too
-pub record HeldBytes : Type 0 where
-  pub bytes : List ℕ
-  pub image : List ℕ
-
-abbrev pub leaves_bytes : HeldBytes → Message → HeldBytes
-leaves_bytes h m = let x = receive_bytes h.bytes h.image m in record { bytes = x.bytes; image = x.image }
-
-unfoldable pub held_bytes_after : HeldBytes → List Message → HeldBytes
-held_bytes_after h [] = h
-held_bytes_after h (m ∷ ms) = held_bytes_after (leaves_bytes h m) ms
+use Rattle.receiver_bytes.proofs.ReceiverLaws.{receiver-left, bytes_left, image-left, answer-left, empty-bytes, empty-is}
 
 abbrev pub held_in : HeldBytes → Held
 held_in h = record { receiver = receiver_in h.bytes; image = h.image }
@@ -64,14 +47,8 @@ unfolding held_bytes_after
 held_bytes h are [] w = are
 held_bytes h are (m ∷ ms) w = held_bytes (leaves_bytes h m) (bytes_left h.bytes h.image are m w.0) ms w.1
 
--- ---- "one such pass over all blocks not yet done leaves that image whole there": from 1,544 zeros on, after any earlier calls
-pub whole-in-bytes : (i : Image) (earlier : List Call) (lent : List ℕ) (last n : ℕ) (before pass : List Message)
-    → let s = receive_bytes (bytes_after (replicate 1544 0) earlier) lent (Start last n) in
-    let h = held_bytes_after (record { bytes = s.bytes; image = s.image }) before in
-    All WordFits (messages_of earlier) → All WordFits before → All WordFits pass
-    → NotRefused s.answer → OfImage i (Start last n) → All (OfImage i) before → All (OfImage i) pass
-    → ((b : ℕ) → b ≤ last → is_done (receiver_in h.bytes) b ≡ false → Visited i b pass)
-    → StandsWhole i lent (held_bytes_after h pass).image
+-- ---- "one such pass over all blocks not yet done leaves that image whole there"
+pub whole-in-bytes : WholeInBytes
 whole-in-bytes i earlier lent last n before pass we wb wp accepted start of-before of-pass visits =
     let a = bytes_after (replicate 1544 0) earlier in
     let are = after-bytes (replicate 1544 0) empty-bytes earlier we in

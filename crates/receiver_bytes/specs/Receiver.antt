@@ -1,22 +1,22 @@
 -- A flood-fill receiver as 1,544 bytes that the caller lends, and what a message leaves of them. Numbers are Little Endian. From offset 0 on:
 -- the count of blocks, the full size of a block, the ID of the open block and its own size, 2 bytes each; from 8 on a byte for each of
 -- 256 blocks, done unless 0; from 264 on a byte for each of 256 words of the open block, come unless 0; from 520 on these words.
-use Rattle.std.specs.Prelude.{Bool, not, List, [], ◌∷◌, ◌++◌, ℕ, zero, suc, ◌+◌, ◌*◌, ltb, eqb, take, drop, set, replicate, if◌then◌else◌}
+use Rattle.std.specs.Prelude.{Bool, not, List, [], ◌∷◌, ◌++◌, ℕ, zero, suc, ◌+◌, ◌*◌, ltb, eqb, take, drop, set, replicate, if◌then◌else◌, Option, None}
 use Rattle.words.specs.Bytes.{little_endian, little_endian_at}
 use Rattle.words.specs.Store.{store}
 use Rattle.flood_fill.specs.declared.message.Message.{Message}
 use Rattle.flood_fill.specs.declared.message.Message.TheVariants.{Start, BlockStart, BlockData, BlockEnd}
-use Rattle.flood_fill.specs.declared.header.Opened.{Opened}
-use Rattle.flood_fill.specs.declared.header.Opened.TheVariants.{Nothing, Block}
+use Rattle.flood_fill.specs.declared.header.Block.{Block}
 use Rattle.flood_fill.specs.declared.header.Header.{Header}
 use Rattle.flood_fill.specs.declared.receiver.Receiver.{Receiver}
+use Rattle.flood_fill.specs.Refusals.{opened_block}
 use Rattle.flood_fill.specs.Answer.{Answer, refused, accepted, ignored, missing, done}
 use Rattle.flood_fill.specs.Receive.{Result, receive}
 
 -- ---- the receiver that bytes are: any bytes are one
 -- a size of 0 says that no block is open
-abbrev pub opened_in : ℕ → ℕ → Opened
-opened_in b n = if eqb n 0 then Nothing else Block b n
+abbrev pub opened_in : ℕ → ℕ → Option Block
+opened_in b n = if eqb n 0 then None else opened_block b n
 
 unfoldable pub header_in : List ℕ → Header
 header_in s =

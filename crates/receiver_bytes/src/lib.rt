@@ -2,7 +2,6 @@
 #![tactic(auto)]
 
 pub mod layout; // where the parts stand
-mod flags; // flags, a byte each
 mod read; // what the bytes say
 mod write; // what a message that is done changes
 pub mod receiver; // the four messages

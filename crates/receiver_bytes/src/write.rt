@@ -1,13 +1,13 @@
 // What a message that is done changes of a receiver's bytes.
-ghost use Rattle.std.specs.Prelude.{◌≡◌, ◌<◌, length};
+ghost use Rattle.std.specs.Prelude.{◌≡◌, ◌<◌};
 ghost use Rattle.flood_fill.specs.declared.message.Message.TheVariants as messages;
 ghost use Rattle.receiver_bytes.specs.Receiver.{with_word, written};
 
-use crate::flags::clear;
 use crate::layout::{COUNT, DONE, MARKS, OPEN_BLOCK, OPEN_SIZE, PLACES, RECEIVER, SIZE, WORDS};
 use words::put::{le_half, le_word};
 
 // All bytes anew: nothing is done, open or marked.
+#[tactic(auto, unfolding(crate::specs::Receiver::written, words::specs::Bytes::little_endian, words::specs::Store::store, words::specs::Store::store_if_fits))]
 pub(crate) fn begin(bytes: &mut [u8; RECEIVER], last_block: u16, size: u16)
     requires { last_block < 256 }
     ensures { bytes.new ≡ written bytes.old (messages.Start last_block size) }
@@ -18,13 +18,13 @@ pub(crate) fn begin(bytes: &mut [u8; RECEIVER], last_block: u16, size: u16)
 }
 
 // Opens a block, with no word marked.
-pub(crate) fn open(bytes: &mut [u8], block: u16, size: u16)
-    requires { length bytes.old ≡ 1544 }
+#[tactic(auto, unfolding(crate::specs::Receiver::written))]
+pub(crate) fn open(bytes: &mut [u8; RECEIVER], block: u16, size: u16)
     ensures { bytes.new ≡ written bytes.old (messages.BlockStart block size) }
 {
     le_half(bytes, OPEN_BLOCK, block);
     le_half(bytes, OPEN_SIZE, size);
-    clear(&mut bytes[MARKS..WORDS]);
+    bytes[MARKS..WORDS].fill(0);
 }
 
 // Keeps and marks a word.
@@ -37,6 +37,7 @@ pub(crate) fn keep(bytes: &mut [u8; RECEIVER], word_id: usize, word: u32)
 }
 
 // A block is done, and none is open.
+#[tactic(auto, unfolding(crate::specs::Receiver::written))]
 pub(crate) fn close(bytes: &mut [u8; RECEIVER], block: usize)
     ensures { bytes.new ≡ written bytes.old (messages.BlockEnd block) }
 {

@@ -6,10 +6,9 @@ use borrow.Author.Tests.{le-ltb, lt-leb, ne_eqb}
 use Rattle.words.proofs.ChoiceLaws.{true-is-false}
 use Rattle.flood_fill.specs.declared.message.Message.{Message}
 use Rattle.flood_fill.specs.declared.message.Message.TheVariants.{Start, BlockStart, BlockData, BlockEnd}
-use Rattle.flood_fill.specs.declared.test.Tested.TheVariants.{Passed}
 use Rattle.flood_fill.specs.declared.receiver.Receiver.{Receiver}
 use Rattle.flood_fill.specs.Limits.{right_size}
-use Rattle.flood_fill.specs.Refusals.{is_open, test_block_start, test_block_end, tested}
+use Rattle.flood_fill.specs.Refusals.{is_open, test_block_start, test_block_end, tested, passed}
 use Rattle.flood_fill.specs.Answer.{accepted, ignored, missing, done}
 use Rattle.flood_fill.specs.Receive.{Result, is_done, lowest_in, result, opening, keeping, block_started, data_came, completed, block_ended, receive}
 use Rattle.flood_fill_series.specs.Claims.{NotRefused}
@@ -40,20 +39,20 @@ module _ (r : Receiver) (image : List ℕ) where
   whole-done b x (finishes _ l o h) e a = refl
 
   -- ---- where it is not refused
-  passed : (m : Message) → tested r.header m (length image) ≡ Passed → NotRefused (receive r image m).answer
+  goes-on : (m : Message) → tested r.header m (length image) ≡ passed → NotRefused (receive r image m).answer
   unfolding receive block_started data_came completed block_ended
-  passed (Start last n) e = rw e tt
-  passed (BlockStart b n) e = rw e (go (is_done r b))
+  goes-on (Start last n) e = rw e tt
+  goes-on (BlockStart b n) e = rw e (go (is_done r b))
     where
       go : (t : Bool) → NotRefused (if t then result r image ignored else result (opening r b n) image accepted).answer
       go true = tt
       go false = tt
-  passed (BlockData b w v) e = rw e (go (wanted r b w))
+  goes-on (BlockData b w v) e = rw e (go (wanted r b w))
     where
       go : (t : Bool) → NotRefused (if t then result (keeping r w v) image accepted else result r image ignored).answer
       go true = tt
       go false = tt
-  passed (BlockEnd b) e = rw e (go (ltb 0 (missing_now r)) (lowest_in (take (size_now r) r.marks)))
+  goes-on (BlockEnd b) e = rw e (go (ltb 0 (missing_now r)) (lowest_in (take (size_now r) r.marks)))
     where
       go : (t : Bool) (l : ℕ) → NotRefused (if t then result r image (missing (missing_now r) l) else completed r image b (size_now r)).answer
       go true l = tt
@@ -67,12 +66,12 @@ module _ (r : Receiver) (image : List ℕ) where
         → NotRefused (receive r image (BlockStart b n)).answer
     unfolding tested test_block_start
     block-start-passes b n h s =
-        passed (BlockStart b n) (simp (long, ne_eqb r.header.count 0 (λ z. omega arith), lt-leb r.header.count b h, s))
+        goes-on (BlockStart b n) (simp (long, ne_eqb r.header.count 0 (λ z. omega arith), lt-leb r.header.count b h, s))
 
     pub data-passes : (b w v : ℕ) → NotRefused (receive r image (BlockData b w v)).answer
     unfolding tested
-    data-passes b w v = passed (BlockData b w v) (simp long)
+    data-passes b w v = goes-on (BlockData b w v) (simp long)
 
     pub block-end-passes : (b : ℕ) → is_open r.header.opened b ≡ true → NotRefused (receive r image (BlockEnd b)).answer
     unfolding tested test_block_end
-    block-end-passes b o = passed (BlockEnd b) (simp (long, o))
+    block-end-passes b o = goes-on (BlockEnd b) (simp (long, o))

@@ -7,11 +7,10 @@ use Rattle.std.proofs.lemmas.Bool.{eqb-false}
 use Rattle.words.proofs.ChoiceLaws.{true-is-false, both}
 use Rattle.words.specs.Store.{store}
 use Rattle.words.proofs.StoreLaws.{part-inside, part-outside}
-use Rattle.flood_fill.specs.declared.header.Opened.TheVariants.{Block}
 use Rattle.flood_fill.specs.declared.receiver.Receiver.{Receiver}
-use Rattle.flood_fill.specs.Refusals.{is_open}
+use Rattle.flood_fill.specs.Refusals.{is_open, opened_block}
 use Rattle.flood_fill.specs.Receive.{afresh, is_done, is_marked, word_bytes, keeping}
-use Rattle.flood_fill.proofs.ReceiveLaws.{length-word_bytes}
+use Rattle.flood_fill.proofs.ReceiveLaws.{length_word_bytes}
 use Rattle.flood_fill_series.specs.Claims.{Held, Image, block_of}
 use Rattle.flood_fill_series.proofs.Proved.Ends.{the_open, size_now, missing_now, wanted, stored_at}
 use Rattle.flood_fill_series.proofs.Proved.Sound.{Sound, afresh-sound, words-stored}
@@ -28,7 +27,7 @@ pub record Agrees (i : Image) (last : ℕ) (m₀ : List ℕ) (h : Held) : Type 0
   pub sound : Sound h.receiver
   pub count : h.receiver.header.count ≡ suc last
   pub size : h.receiver.header.size ≡ i.size
-  pub open-agrees : (b n : ℕ) → h.receiver.header.opened ≡ Block b n → OpenAgrees i h.receiver b n
+  pub open-agrees : (b n : ℕ) → h.receiver.header.opened ≡ opened_block b n → OpenAgrees i h.receiver b n
   -- done blocks stand in the lent image, which is as it was behind the last
   pub done-agrees : (b : ℕ) → b ≤ last → is_done h.receiver b ≡ true → Stands i b h.image
   pub image-length : length h.image ≡ length m₀
@@ -59,14 +58,14 @@ module _ (i : Image) (last : ℕ) (f : Blocks i last) (m₀ : List ℕ) where
       }
 
   -- ---- a word is kept
-  pub keeps-word : (r : Receiver) (b w v c n : ℕ) → r.header.opened ≡ Block c n → wanted r b w ≡ true → v ≡ get_or (block_of i b) w 0
+  pub keeps-word : (r : Receiver) (b w v c n : ℕ) → r.header.opened ≡ opened_block c n → wanted r b w ≡ true → v ≡ get_or (block_of i b) w 0
       → length r.words ≡ 256 → OpenAgrees i r c n → OpenAgrees i (keeping r w v) c n
   keeps-word r b w v c n o e value l a = record { size = a.size; words = λ j h t. go j h t (eqb j w) refl }
     where
       same : b ≡ c
       same =
           let p = (both (is_open r.header.opened b && ltb w (size_now r)) (not (is_marked r w)) e).0 in
-          let q : is_open (Block c n) b ≡ true = rw o at (both (is_open r.header.opened b) (ltb w (size_now r)) p).0 in
+          let q : is_open (opened_block c n) b ≡ true = rw o at (both (is_open r.header.opened b) (ltb w (size_now r)) p).0 in
           sym (eqb-true c b q)
 
       go : (j : ℕ) → j < n → is_marked (keeping r w v) j ≡ true → (t : Bool) → eqb j w ≡ t → get_or (set r.words w v) j 0 ≡ get_or (block_of i c) j 0
@@ -105,7 +104,7 @@ module _ (i : Image) (last : ℕ) (f : Blocks i last) (m₀ : List ℕ) where
         let e : place_of i b + 4 * size_now h.receiver ≤ length h.image =
         rw a.size at (words-stored h.receiver h.image b a.sound room is_open_lem).room
         in
-        omega (arith, its-size, length-word_bytes (block_of i b))
+        omega (arith, its-size, length_word_bytes (block_of i b))
 
     -- it stands then, and so does each block that stood
     stands_self : Stands i b (stored_at h.receiver h.image b)

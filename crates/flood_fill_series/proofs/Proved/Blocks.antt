@@ -6,10 +6,9 @@ use Rattle.words.specs.Choice.{All}
 use Rattle.words.proofs.ChoiceLaws.{true-is-false, both}
 use Rattle.flood_fill.specs.declared.message.Message.{Message}
 use Rattle.flood_fill.specs.declared.message.Message.TheVariants.{Start, BlockStart, BlockData, BlockEnd}
-use Rattle.flood_fill.specs.declared.header.Opened.TheVariants.{Block}
 use Rattle.flood_fill.specs.declared.header.Header.{Header}
 use Rattle.flood_fill.specs.declared.receiver.Receiver.{Receiver}
-use Rattle.flood_fill.specs.Refusals.{open_size}
+use Rattle.flood_fill.specs.Refusals.{open_size, opened_block}
 use Rattle.flood_fill.specs.Answer.{done}
 use Rattle.flood_fill.specs.Receive.{Result, empty, is_done, missing_in, opening, receive}
 use Rattle.flood_fill_series.specs.Claims.{Call, after, messages_of, Image, block_of, DataOf, came, EveryWord, OnlyData, OrderFree, Completes}
@@ -60,7 +59,7 @@ every-inside i b (suc n) ms d h = came-inside i b n ms d (h n (omega arith))
 
 -- ---- the block that is open, with its data
 module _ (i : Image) (b n : ℕ) (ms : List Message) (r x : Receiver) (f : Filled i b n ms (opening r b n) x) where
-  pub filled-open : x.header.opened ≡ Block b n
+  pub filled-open : x.header.opened ≡ opened_block b n
   filled-open = ap (λ (h : Header). h.opened) f.header
 
   filled-size : size_now x ≡ n

@@ -1,7 +1,7 @@
 -- How a call can end, and what is then known.
-use Rattle.std.specs.Prelude.{◌≡◌, Bool, not, ◌&&◌, List, ℕ, suc, ◌*◌, ◌≤◌, ◌<◌, eqb, length, take, if◌then◌else◌}
+use Rattle.std.specs.Prelude.{◌≡◌, Bool, not, ◌&&◌, List, ℕ, suc, ◌*◌, ◌≤◌, ◌<◌, eqb, length, take, if◌then◌else◌, Option, Some, None, Err}
 use Rattle.std.proofs.Math.Path.{refl}
-use Rattle.std.proofs.Common.{sym, arith}
+use Rattle.std.proofs.Common.{sym, ap, arith}
 use Rattle.std.proofs.Math.Bool.{true, false}
 use Rattle.std.proofs.Math.Dec.{ltb, leb}
 use borrow.Author.Tests.{leb-false, ltb-true, ltb-false, eqb-true}
@@ -9,20 +9,24 @@ use Rattle.words.proofs.ChoiceLaws.{true-is-false}
 use Rattle.words.specs.Store.{store_if_fits}
 use Rattle.flood_fill.specs.declared.message.Message.{Message}
 use Rattle.flood_fill.specs.declared.message.Message.TheVariants.{Start, BlockStart, BlockData, BlockEnd}
-use Rattle.flood_fill.specs.declared.header.Opened.{Opened}
-use Rattle.flood_fill.specs.declared.header.Opened.TheVariants.{Nothing, Block}
-use Rattle.flood_fill.specs.declared.test.Tested.TheVariants.{Refused, Passed}
+use Rattle.flood_fill.specs.declared.header.Block.{Block}
+use Rattle.outcome.specs.declared.refusal.Cause.TheVariants.{ImageTooShort, OutsideLimits, NoStart, NoSuchBlock, WrongSize, NotOpen}
 use Rattle.flood_fill.specs.declared.receiver.Receiver.{Receiver}
 use Rattle.flood_fill.specs.Limits.{within_limits, right_size}
 use Rattle.flood_fill.proofs.LimitsLaws.{Limits, limits, size-bounds}
-use Rattle.flood_fill.specs.Refusals.{is_open, open_size, is_wanted, is_short, test_start, test_block_start, test_block_end, tested}
+use Rattle.flood_fill.specs.Refusals.{is_open, open_size, is_wanted, is_short, test_start, test_block_start, test_block_end, tested, opened_block, passed}
 use Rattle.flood_fill.specs.Answer.{refused, accepted, ignored, missing, done}
 use Rattle.flood_fill.specs.Receive.{Result, afresh, is_done, is_marked, missing_in, lowest_in, word_bytes, result, opening, keeping, completing, block_started, data_came, completed, block_ended, result_at, receive}
 
 -- ---- the open block
-pub the_open : (o : Opened) (b : ℕ) → is_open o b ≡ true → o ≡ Block b (open_size o)
-the_open Nothing b e = true-is-false (sym e)
-the_open (Block c n) b e = rw (eqb-true c b e)
+-- its ID; 0 where none is open
+abbrev pub open_id : Option Block → ℕ
+open_id None = 0
+open_id (Some k) = k.block
+
+pub the_open : (o : Option Block) (b : ℕ) → is_open o b ≡ true → o ≡ opened_block b (open_size o)
+the_open None b e = true-is-false (sym e)
+the_open (Some k) b e = ap (λ c. opened_block c k.size) (eqb-true k.block b e)
 
 -- its own size, how many of its marks are empty, and whether a word is kept
 abbrev pub size_now : Receiver → ℕ
@@ -56,7 +60,7 @@ module _ (r : Receiver) (image : List ℕ) where
   start-ends last n = go (is_short r.header (Start last n) (length image)) refl (within_limits (suc last) n) refl
     where
       go : (s : Bool) → is_short r.header (Start last n) (length image) ≡ s → (t : Bool) → within_limits (suc last) n ≡ t
-          → Ends (Start last n) (result_at (if s then Refused 24 else if t then Passed else Refused 25) r image (Start last n))
+          → Ends (Start last n) (result_at (if s then Err ImageTooShort else if t then passed else Err OutsideLimits) r image (Start last n))
       go true e t f = refuses (Start last n) 24
       go false e true f = begins last n (ltb-false (length image) (4 * (suc last * n)) e) (limits (suc last) n f)
       go false e false f = refuses (Start last n) 25
@@ -70,7 +74,7 @@ module _ (r : Receiver) (image : List ℕ) where
       go : (s z l : Bool) → leb r.header.count b ≡ l → (g : Bool) → right_size r.header.count r.header.size b n ≡ g → (d : Bool)
           → is_done r b ≡ d
           → Ends (BlockStart b n)
-          (result_at (if s then Refused 24 else if z then Refused 26 else if l then Refused 27 else if g then Passed else Refused 28) r image (BlockStart b n))
+          (result_at (if s then Err ImageTooShort else if z then Err NoStart else if l then Err NoSuchBlock else if g then passed else Err WrongSize) r image (BlockStart b n))
       go true z l e g f d h = refuses (BlockStart b n) 24
       go false true l e g f d h = refuses (BlockStart b n) 26
       go false false true e g f d h = refuses (BlockStart b n) 27
@@ -83,7 +87,7 @@ module _ (r : Receiver) (image : List ℕ) where
   unfolding receive tested data_came
   data-ends b w v = go (is_short r.header (BlockData b w v) (length image)) (wanted r b w) refl
     where
-      go : (s t : Bool) → wanted r b w ≡ t → Ends (BlockData b w v) (result_at (if s then Refused 24 else Passed) r image (BlockData b w v))
+      go : (s t : Bool) → wanted r b w ≡ t → Ends (BlockData b w v) (result_at (if s then Err ImageTooShort else passed) r image (BlockData b w v))
       go true t e = refuses (BlockData b w v) 24
       go false true e = rw e (keeps b w v e)
       go false false e = rw e (drops b w v e)
@@ -95,7 +99,7 @@ module _ (r : Receiver) (image : List ℕ) where
     where
       go : (s : Bool) → is_short r.header (BlockEnd b) (length image) ≡ s → (o : Bool) → is_open r.header.opened b ≡ o → (t : Bool)
           → ltb 0 (missing_now r) ≡ t
-          → Ends (BlockEnd b) (result_at (if s then Refused 24 else if o then Passed else Refused 29) r image (BlockEnd b))
+          → Ends (BlockEnd b) (result_at (if s then Err ImageTooShort else if o then passed else Err NotOpen) r image (BlockEnd b))
       go true e o f t g = refuses (BlockEnd b) 24
       go false e false f t g = refuses (BlockEnd b) 29
       go false e true f true g = rw g (misses b (lowest_in (take (size_now r) r.marks)) (ltb-true 0 (missing_now r) g))

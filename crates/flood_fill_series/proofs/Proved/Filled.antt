@@ -4,8 +4,8 @@ use Rattle.std.proofs.Common.{ap, sym, ◌∙◌, arith, length-set, ext_get_or,
 use Rattle.words.specs.Choice.{All}
 use Rattle.flood_fill.specs.declared.message.Message.{Message}
 use Rattle.flood_fill.specs.declared.message.Message.TheVariants.{Start, BlockStart, BlockData, BlockEnd}
-use Rattle.flood_fill.specs.declared.header.Opened.TheVariants.{Block}
 use Rattle.flood_fill.specs.declared.header.Header.{Header}
+use Rattle.flood_fill.specs.Refusals.{opened_block}
 use Rattle.flood_fill.specs.declared.receiver.Receiver.{Receiver}
 use Rattle.flood_fill.specs.Receive.{receive}
 use Rattle.flood_fill_series.specs.Claims.{Call, after, answers, messages_of, NotRefused, Image, block_of, DataOf, is_word, came}
@@ -51,7 +51,7 @@ value_of i b k j w v u t l e = go (eqb b k) refl (eqb j w) refl t l
     go false p y q true l = refl
     go false p y q false l = refl
 
-pub noted_one : (i : Image) (b n : ℕ) (r : Receiver) (m : Message) → r.header.opened ≡ Block b n → DataOf i m
+pub noted_one : (i : Image) (b n : ℕ) (r : Receiver) (m : Message) → r.header.opened ≡ opened_block b n → DataOf i m
     → Filled i b n (m ∷ []) r (noted r m)
 unfolding came
 noted_one i b n r (Start last k) o d = absurd d
@@ -87,7 +87,7 @@ twice_word false false true true f u = refl
 twice_word false false true false f u = refl
 twice_word false false false l f u = refl
 
-pub noted-all : (i : Image) (b n : ℕ) (r : Receiver) (ms : List Message) → r.header.opened ≡ Block b n → All (DataOf i) ms
+pub noted-all : (i : Image) (b n : ℕ) (r : Receiver) (ms : List Message) → r.header.opened ≡ opened_block b n → All (DataOf i) ms
     → Filled i b n ms r (noted_all r ms)
 unfolding came noted_all
 noted-all i b n r [] o d =

@@ -1,5 +1,5 @@
 -- What one word leaves that is not refused.
-use Rattle.std.specs.Prelude.{◌≡◌, Bool, ◌&&◌, ◌||◌, List, [], ◌∷◌, ℕ, zero, suc, ◌<◌, set, if◌then◌else◌}
+use Rattle.std.specs.Prelude.{◌≡◌, Bool, ◌&&◌, ◌||◌, List, [], ◌∷◌, ℕ, zero, suc, ◌<◌, set, if◌then◌else◌, Option}
 use Rattle.std.proofs.Math.Path.{refl, sym}
 use Rattle.std.proofs.Common.{ap, ◌∙◌, get_or-set_same}
 use Rattle.std.proofs.Math.Bool.{true, false, not}
@@ -10,10 +10,9 @@ use Rattle.std.proofs.Math.Seq.{get_or-set_other}
 use borrow.Author.Tests.{eqb-true, eqb-false}
 use Rattle.flood_fill.specs.declared.message.Message.{Message}
 use Rattle.flood_fill.specs.declared.message.Message.TheVariants.{Start, BlockStart, BlockData, BlockEnd}
-use Rattle.flood_fill.specs.declared.header.Opened.{Opened}
-use Rattle.flood_fill.specs.declared.header.Opened.TheVariants.{Block}
+use Rattle.flood_fill.specs.declared.header.Block.{Block}
 use Rattle.flood_fill.specs.declared.receiver.Receiver.{Receiver}
-use Rattle.flood_fill.specs.Refusals.{is_wanted}
+use Rattle.flood_fill.specs.Refusals.{is_wanted, opened_block}
 use Rattle.flood_fill.specs.Receive.{keeping, receive}
 use Rattle.flood_fill_series.specs.Claims.{NotRefused, Image, DataOf}
 use Rattle.flood_fill_series.proofs.Proved.Ends.{wanted, ends}
@@ -56,9 +55,9 @@ pub no-else : (t : Bool) (x y : ℕ) → (if t && false then x else y) ≡ y
 no-else true x y = refl
 no-else false x y = refl
 
-module _ (r : Receiver) (b n : ℕ) (open_block : r.header.opened ≡ Block b n) (k w v : ℕ) where
+module _ (r : Receiver) (b n : ℕ) (open_block : r.header.opened ≡ opened_block b n) (k w v : ℕ) where
   wanted-open : wanted r k w ≡ (eqb b k && ltb w n && not (get_or r.marks w true))
-  wanted-open = ap (λ (o : Opened). is_wanted o k w && not (get_or r.marks w true)) open_block
+  wanted-open = ap (λ (o : Option Block). is_wanted o k w && not (get_or r.marks w true)) open_block
 
   pub note-mark : (j : ℕ) → get_or (noted r (BlockData k w v)).marks j true ≡ get_or r.marks j true || ((eqb b k && eqb j w) && ltb j n)
   unfolding noted

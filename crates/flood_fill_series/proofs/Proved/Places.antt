@@ -11,7 +11,7 @@ use Rattle.std.proofs.lemmas.Bool.{eqb-false}
 use Rattle.words.proofs.RangeLaws.{Apart, before, behind}
 use Rattle.flood_fill.specs.Limits.{right_size}
 use Rattle.flood_fill.specs.Receive.{word_bytes}
-use Rattle.flood_fill.proofs.ReceiveLaws.{length-word_bytes, word_bytes-append}
+use Rattle.flood_fill.proofs.ReceiveLaws.{length_word_bytes, word_bytes-append}
 use Rattle.flood_fill_series.specs.Claims.{Image, block_of}
 
 -- an image of suc last blocks
@@ -63,7 +63,7 @@ module _ (i : Image) (last : ℕ) (f : Blocks i last) where
   ends-in-image b h =
       let m = mul-le-mul_right {m = b} {n = last} i.size h in
       let l = length-take i.size (drop (b * i.size) i.words) in
-      omega (arith, length-word_bytes (block_of i b), length-word_bytes i.words, length-drop (b * i.size) i.words, f.low)
+      omega (arith, length_word_bytes (block_of i b), length_word_bytes i.words, length-drop (b * i.size) i.words, f.low)
 
   -- two blocks share no byte
   pub blocks-apart : (b c : ℕ) → (b ≡ c → ⊥) → Apart (place_of i b) (length (bytes_of i b)) (place_of i c) (length (bytes_of i c))
@@ -73,11 +73,11 @@ module _ (i : Image) (last : ℕ) (f : Blocks i last) where
       go true e =
           let h : suc b ≤ c = omega (arith, leb-true b c e) in
           let m = mul-le-mul_right {m = suc b} {n = c} i.size h in
-          before (omega (arith, length-word_bytes (block_of i b), block-length b))
+          before (omega (arith, length_word_bytes (block_of i b), block-length b))
       go false e =
           let h : suc c ≤ b = leb-false b c e in
           let m = mul-le-mul_right {m = suc c} {n = b} i.size h in
-          behind (omega (arith, length-word_bytes (block_of i c), block-length c))
+          behind (omega (arith, length_word_bytes (block_of i c), block-length c))
 
   -- a list that has each block at its place has the whole image
   module _ (image : List ℕ) (right : (b : ℕ) → b ≤ last → Stands i b image) where
@@ -90,7 +90,7 @@ module _ (i : Image) (last : ℕ) (f : Blocks i last) where
         let z : suc k * i.size ≡ k * i.size + i.size = omega arith in
         let w : take (suc k * i.size) i.words ≡ a ++ block_of i k = rw z (take-add (k * i.size) i.size i.words) in
         let n : length (word_bytes a) ≡ place_of i k =
-        length-word_bytes a ∙ ap (4 *◌) (length-take-le (k * i.size) i.words (omega (arith, f.low)))
+        length_word_bytes a ∙ ap (4 *◌) (length-take-le (k * i.size) i.words (omega (arith, f.low)))
         in
         rw (w, word_bytes-append, length-append, take-add, up_to k (omega arith), n, right k (omega arith))
 

@@ -1,26 +1,25 @@
 -- What holds of every receiver that calls left from an empty one, and so of the words of a completed block.
 use Rattle.std.specs.Prelude.{◌≡◌, true, List, [], ◌∷◌, ℕ, suc, ◌+◌, ◌*◌, ◌≤◌, ◌<◌, length, take}
-use Rattle.std.proofs.Common.{◌∙◌, mul-le-mul_right, arith, length-take, length-set}
+use Rattle.std.proofs.Common.{ap, ◌∙◌, mul-le-mul_right, arith, length-take, length-set}
 use Rattle.std.proofs.lemmas.List.{length-replicate}
 use Rattle.words.specs.Store.{store}
 use Rattle.words.proofs.StoreLaws.{store-fits}
 use Rattle.flood_fill.specs.declared.message.Message.{Message}
 use Rattle.flood_fill.specs.declared.message.Message.TheVariants.{BlockEnd}
-use Rattle.flood_fill.specs.declared.header.Opened.TheVariants.{Block}
 use Rattle.flood_fill.specs.declared.receiver.Receiver.{Receiver}
-use Rattle.flood_fill.specs.Refusals.{is_open}
+use Rattle.flood_fill.specs.Refusals.{is_open, opened_block, open_size}
 use Rattle.flood_fill.specs.Answer.{done}
 use Rattle.flood_fill.specs.Receive.{Result, afresh, empty, word_bytes, receive}
-use Rattle.flood_fill.proofs.ReceiveLaws.{length-word_bytes}
+use Rattle.flood_fill.proofs.ReceiveLaws.{length_word_bytes}
 use Rattle.flood_fill_series.specs.Claims.{Call, after}
-use Rattle.flood_fill_series.proofs.Proved.Ends.{the_open, size_now, stored_at, Ends, refuses, begins, skips, opens, keeps, drops, misses, finishes, ends}
+use Rattle.flood_fill_series.proofs.Proved.Ends.{open_id, the_open, size_now, stored_at, Ends, refuses, begins, skips, opens, keeps, drops, misses, finishes, ends}
 
 pub record Sound (r : Receiver) : Type 0 where
   pub words-length : length r.words ≡ 256
   pub size-high : r.header.size ≤ 256
   -- the open block is one of the declared ones, and no longer than a full one
-  pub block_inside : (b n : ℕ) → r.header.opened ≡ Block b n → b < r.header.count
-  pub block_size : (b n : ℕ) → r.header.opened ≡ Block b n → n ≤ r.header.size
+  pub block_inside : (b n : ℕ) → r.header.opened ≡ opened_block b n → b < r.header.count
+  pub block_size : (b n : ℕ) → r.header.opened ≡ opened_block b n → n ≤ r.header.size
 
 pub afresh-sound : (count n : ℕ) → n ≤ 256 → Sound (afresh count n)
 afresh-sound count n h =
@@ -39,8 +38,8 @@ sound-ends r image m x (opens b n d l h) s =
     record {
       words-length = s.words-length;
       size-high = s.size-high;
-      block_inside = λ c k o. let p : c ≡ b = cc in omega arith;
-      block_size = λ c k o. let p : k ≡ n = cc in omega arith;
+      block_inside = λ c k o. let p : b ≡ c = ap open_id o in omega arith;
+      block_size = λ c k o. let p : n ≡ k = ap open_size o in omega arith;
     }
 sound-ends r image m x (keeps b w v e) s =
     record {
@@ -90,7 +89,7 @@ module _ (r : Receiver) (image : List ℕ) (b : ℕ) (s : Sound r) where
         words = omega (arith, s.words-length, s.size-high);
         stored =
             store-fits image (4 * (b * r.header.size)) (word_bytes (take n r.words))
-            (omega (arith, length-word_bytes (take n r.words), length-take n r.words));
+            (omega (arith, length_word_bytes (take n r.words), length-take n r.words));
       }
 
   pub done-stores : (x : Result) → Ends r image (BlockEnd b) x → x.answer ≡ done → WordsStored r image b x.image

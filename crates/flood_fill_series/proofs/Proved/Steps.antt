@@ -7,9 +7,10 @@ use Rattle.words.specs.Choice.{All}
 use Rattle.words.proofs.ChoiceLaws.{true-is-false}
 use Rattle.words.proofs.StoreLaws.{length-store, drop-store}
 use Rattle.flood_fill.specs.declared.message.Message.{Message}
+use Rattle.flood_fill.specs.Refusals.{open_size}
 use Rattle.flood_fill.specs.Receive.{Result, receive}
 use Rattle.flood_fill_series.specs.Claims.{Held, leaves, held_after, Image, block_of, OfImage}
-use Rattle.flood_fill_series.proofs.Proved.Ends.{Ends, refuses, begins, skips, opens, keeps, drops, misses, finishes, ends}
+use Rattle.flood_fill_series.proofs.Proved.Ends.{open_id, Ends, refuses, begins, skips, opens, keeps, drops, misses, finishes, ends}
 use Rattle.flood_fill_series.proofs.Proved.Sound.{sound-ends}
 use Rattle.flood_fill_series.proofs.Proved.Places.{Blocks, bytes_of, place_of, Stands, block-length, ends-in-image}
 use Rattle.flood_fill_series.proofs.Proved.Agrees.{Agrees, same-last, begun, keeps-word, inside, stored, fits, stands-still, done-stands}
@@ -29,8 +30,8 @@ module _ (i : Image) (last : ℕ) (f : Blocks i last) (m₀ : List ℕ) where
         count = a.count;
         size = a.size;
         open-agrees = λ c k o.
-            let y : c ≡ b = cc in
-            let z : k ≡ n = cc in
+            let y : c ≡ b = sym (ap open_id o) in
+            let z : k ≡ n = sym (ap open_size o) in
             record {
               size = z ∙ p ∙ ap (λ (q : ℕ). length (block_of i q)) (sym y);
               words = λ w g t.

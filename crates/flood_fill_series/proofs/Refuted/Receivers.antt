@@ -1,11 +1,10 @@
 -- Wrong receivers: each does what ours does, but for one thing.
-use Rattle.std.specs.Prelude.{Bool, true, false, ◌&&◌, List, ℕ, ◌*◌, eqb, take, set, replicate, if◌then◌else◌}
+use Rattle.std.specs.Prelude.{Bool, true, false, ◌&&◌, List, ℕ, ◌*◌, eqb, take, set, replicate, if◌then◌else◌, Option, Some, None}
 use Rattle.words.specs.Store.{store_if_fits}
 use Rattle.flood_fill.specs.declared.message.Message.TheVariants.{Start, BlockStart, BlockData, BlockEnd}
-use Rattle.flood_fill.specs.declared.header.Opened.{Opened}
-use Rattle.flood_fill.specs.declared.header.Opened.TheVariants.{Nothing, Block}
+use Rattle.flood_fill.specs.declared.header.Block.{Block}
 use Rattle.flood_fill.specs.declared.receiver.Receiver.{Receiver}
-use Rattle.flood_fill.specs.Refusals.{is_open, open_size}
+use Rattle.flood_fill.specs.Refusals.{is_open, open_size, opened_block}
 use Rattle.flood_fill.specs.Answer.{Answer, refused, accepted, ignored, missing, done}
 use Rattle.flood_fill.specs.Receive.{Result, headed, is_marked, lowest_in, word_bytes, result, receive}
 use Rattle.flood_fill_series.specs.Claims.{Step}
@@ -42,7 +41,7 @@ with_done r d = record { header = r.header; done = d; marks = r.marks; words = r
 abbrev with_marks : Receiver → List Bool → Receiver
 with_marks r m = record { header = r.header; done = r.done; marks = m; words = r.words }
 
-abbrev with_opened : Receiver → Opened → Receiver
+abbrev with_opened : Receiver → Option Block → Receiver
 with_opened r o =
     record { header = headed r.header.count r.header.size o; done = r.done; marks = r.marks; words = r.words }
 
@@ -59,9 +58,9 @@ keeps_old_marks =
     except_block_start (λ r image b n. let s = receive r image (BlockStart b n) in result (with_marks s.receiver r.marks) image s.answer)
 
 -- opens the last block with the full size, also where it is shorter
-abbrev widened : ℕ → Opened → Opened
-widened full Nothing = Nothing
-widened full (Block b n) = Block b full
+abbrev widened : ℕ → Option Block → Option Block
+widened full None = None
+widened full (Some k) = opened_block k.block full
 
 abbrev pub awaits_full_size : Step
 awaits_full_size =
@@ -72,9 +71,9 @@ awaits_full_size =
 
 -- ---- Block Data
 -- keeps data of any block as the open one's
-abbrev open_or : ℕ → Opened → ℕ
-open_or b Nothing = b
-open_or b (Block k n) = k
+abbrev open_or : ℕ → Option Block → ℕ
+open_or b None = b
+open_or b (Some k) = k.block
 
 abbrev pub keeps_any_block : Step
 keeps_any_block = except_data (λ r image b w v. receive r image (BlockData (open_or b r.header.opened) w v))

@@ -13,6 +13,6 @@ unfolding receiver_in
 returns c = let w = c in
     let x = w.args in
     let s = x.bytes.now in
-    let are : Bytes s = all-elements _ 0 s (λ i. omega (arith, w.shared_slice_known-1.given i)) in
+    let are : Bytes s = all-elements _ 0 s w.fits-bytes in
     let e : 520 + 4 * x.used - 520 ≡ 4 * x.used = omega arith in
     rw (bytes-of-words s are x.used 256 520 (omega arith) (omega arith), ← e) w.bytes.ensures

@@ -26,6 +26,6 @@ returns c = let w = c in
     store-behind s 4 (little_endian 2 x.block) (little_endian 2 x.size) 6 a.le_half.new.s t (omega arith) (omega arith) (a.le_half.ensures ∙ store-fits s 4 (little_endian 2 x.block) (omega arith)) b.le_half-2.ensures
     in
     let long : 520 ≤ length t = omega arith in
-    store-part t 264 520 w.clear.new.flags (omega arith) long w.clear.auto.flags
-    ∙ ap (store t 264) (w.clear.ensures ∙ ap (λ n. replicate n 0) (mid_len 264 520 t long))
+    store-part t 264 520 w.fill.new.self (omega arith) long w.fill.ensures.len
+    ∙ ap (store t 264) (w.fill.ensures.after (λ y e. e) ∙ ap (λ n. replicate n 0) (mid_len 264 520 t long))
     ∙ ap (λ m. store m 264 (replicate 256 0)) headed

@@ -1,9 +1,0 @@
--- `receiver_bytes::read::opened` meets its contract: by the size.
-use borrow.Author.Tests.{eq-eqb, ne_eqb}
-use Rattle.receiver_bytes.proofs.read.opened.Goals as goal
-
-pub returns-then-size-eq0 : goal.returns-then-size-eq0
-returns-then-size-eq0 c = simp (eq-eqb _ _ c.if-size-eq0.true)
-
-pub returns-else-size-eq0 : goal.returns-else-size-eq0
-returns-else-size-eq0 c = simp (ne_eqb _ _ c.if-size-eq0.false)
