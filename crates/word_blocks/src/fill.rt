@@ -1,5 +1,6 @@
 // A word repeated over a slice, its bytes lowest first, and cut at the slice's end.
 ghost use Rattle.std.specs.Prelude.{◌≡◌, ◌/◌, length};
+ghost use Rattle.words.specs.Bytes.{little_endian};
 ghost use Rattle.word_blocks.specs.Repeat.{repeated, filling};
 ghost use Rattle.words.specs.Store.{store};
 
@@ -14,12 +15,22 @@ fn whole_words(part: &mut [u8], word: u32)
     }
 }
 
+// The lowest bytes of a word, as many as the slice has.
+fn low_bytes(part: &mut [u8], word: u32)
+    ensures { part.new ≡ little_endian (length part.old) word }
+{
+    let mut rest = word;
+    for i in 0..part.len() {
+        part[i] = (rest % 256) as u8;
+        rest /= 256;
+    }
+}
+
 // The word over the whole slice.
 pub fn fill(part: &mut [u8], word: u32)
     ensures { part.new ≡ filling (length part.old) word }
 {
+    let whole = part.len() / 4 * 4;
     whole_words(part, word);
-    let behind = part.len() % 4;
-    let whole = part.len() - behind;
-    part[whole..].copy_from_slice(&word.to_le_bytes()[..behind]);
+    low_bytes(&mut part[whole..], word);
 }
