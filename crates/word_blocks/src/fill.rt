@@ -8,15 +8,10 @@ ghost use Rattle.words.specs.Store.{store};
 fn whole_words(part: &mut [u8], word: u32)
     ensures { part.new ≡ store part.old 0 (repeated (length part.old / 4) word) }
 {
-    let n = part.len() / 4;
-    let mut i: usize = 0;
-    while i < n {
+    let bytes = word.to_le_bytes();
+    for i in 0..part.len() / 4 {
         let at = i * 4;
-        part[at] = (word % 256) as u8;
-        part[at + 1] = (word / 256 % 256) as u8;
-        part[at + 2] = (word / 65536 % 256) as u8;
-        part[at + 3] = (word / 16777216 % 256) as u8;
-        i += 1;
+        part[at..at + 4].copy_from_slice(&bytes);
     }
 }
 
@@ -25,11 +20,9 @@ fn low_bytes(part: &mut [u8], word: u32)
     ensures { part.new ≡ little_endian (length part.old) word }
 {
     let mut rest = word;
-    let mut i: usize = 0;
-    while i < part.len() {
+    for i in 0..part.len() {
         part[i] = (rest % 256) as u8;
-        rest = rest / 256;
-        i += 1;
+        rest /= 256;
     }
 }
 

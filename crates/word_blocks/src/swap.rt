@@ -8,12 +8,10 @@ fn swap_whole(source: &[u8], part: &mut [u8])
     requires { (length part.old ≡ length source.now) × (length source.now % 4 ≡ 0) }
     ensures { part.new ≡ swap_words source.now }
 {
-    let mut at: usize = 0;
-    while at < source.len() {
-        let next = at + 4;
-        let word = words::read::be_word(&source[at..next]);
-        words::put::le_word(&mut part[at..next], 0, word);
-        at = next;
+    for i in 0..source.len() / 4 {
+        let at = i * 4;
+        let word = words::read::be_word(&source[at..at + 4]);
+        part[at..at + 4].copy_from_slice(&word.to_le_bytes());
     }
 }
 

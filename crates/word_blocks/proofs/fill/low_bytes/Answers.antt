@@ -1,10 +1,10 @@
 -- `word_blocks::fill::low_bytes` meets its contract. The loop's invariant: the bytes stored, and behind them those of what is left of the word, are the word's.
-use mathlib.Core.Path.{◌≡◌, refl, sym, ◌∙◌}
+use mathlib.Core.Path.{◌≡◌, sym, ◌∙◌}
 use mathlib.Core.List.{List, ◌++◌, append_assoc, append-nil}
 use Prim.Native.Nat.{ℕ, suc, ◌+◌, ◌-◌, ◌/◌, ◌%◌, ◌<◌}
 use native.Mathlib.Numerals.{add-one}
 use native.Mathlib.Omega.{arith}
-use lib.ListN.{length, take, set, length-set}
+use lib.ListN.{length, take, set}
 use lib.Seq.{take-suc-set, take_all}
 use Rattle.words.specs.Bytes.{little_endian}
 use Rattle.word_blocks.proofs.fill.low_bytes.Goals as goal
@@ -20,16 +20,16 @@ one_more m n i r h e =
 pub loop-i-init : goal.loop-i-init
 loop-i-init c = let n = length c.args.part.now in
     let z : n - 0 ≡ n = omega arith in
-    (refl, (omega arith, rw z))
+    rw z
 
 pub loop-i-preserved : goal.loop-i-preserved
 loop-i-preserved c = let l = c.loop-i in
     let n = length c.args.part.now in
-    (simp length-set l.invariant.0, (omega arith, one_more l.part n l.i l.rest (omega arith) (omega arith) ∙ l.invariant.1.1))
+    one_more l.part n l.i l.rest (omega arith) (omega arith) ∙ l.invariant
 
 pub returns : goal.returns
 unfolding little_endian
 returns c = let l = c.loop-i in
     let n = length c.args.part.now in
     let z : n - l.i ≡ 0 = omega arith in
-    sym (take_all l.i l.part (omega arith)) ∙ sym (append-nil (take l.i l.part)) ∙ rw z at l.invariant.1.1
+    sym (take_all l.i l.part (omega arith)) ∙ sym (append-nil (take l.i l.part)) ∙ rw z at l.invariant

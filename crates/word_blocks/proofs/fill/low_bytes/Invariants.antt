@@ -1,12 +1,9 @@
 use mathlib.Core.Path.{◌≡◌}
 use mathlib.Core.List.{◌++◌}
-use Prim.Native.Nat.{◌-◌, ◌≤◌}
+use Prim.Native.Nat.{◌-◌}
 use lib.ListN.{length, take}
 use Rattle.words.specs.Bytes.{little_endian}
 use Rattle.word_blocks.proofs.fill.low_bytes.Given as goal
 
 abbrev pub invariant-loop-i : goal.invariant-loop-i
-invariant-loop-i l = (length l.part ≡ length l.initial.part) × ((l.i ≤ length l.initial.part) × (take l.i l.part ++ little_endian (length l.initial.part - l.i) l.rest ≡ little_endian (length l.initial.part) l.word))
-
-abbrev pub decreases-loop-i : goal.decreases-loop-i
-decreases-loop-i l = length l.initial.part - l.i
+invariant-loop-i l = take l.i l.part ++ little_endian (length l.initial.part - l.i) l.rest ≡ little_endian (length l.initial.part) l.word
