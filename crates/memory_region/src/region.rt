@@ -4,14 +4,14 @@ ghost use Rattle.words.specs.Range.{meets};
 ghost use Rattle.memory_region.specs.Region.Follows.{follows};
 ghost use Rattle.memory_region.specs.Region.{allows, keeps_rules, clear, ends_inside, permits, place_in};
 
-#[derive(Clone, Copy)]
+#[derive(Debug, Clone, Copy, PartialEq, Eq)]
 pub struct Rights {
     pub read: bool,
     pub write: bool,
     pub run: bool,
 }
 
-#[derive(Clone, Copy)]
+#[derive(Debug, Clone, Copy, PartialEq, Eq)]
 pub enum Right {
     Read,
     Write,
@@ -19,7 +19,7 @@ pub enum Right {
 }
 
 // `length` addresses from `base` on, which are the buffer's bytes from `place` on.
-#[derive(Clone, Copy)]
+#[derive(Debug, Clone, Copy, PartialEq, Eq)]
 pub struct Region {
     pub base: u32,
     pub length: u32,
@@ -31,16 +31,7 @@ pub struct Region {
 fn apart(a: u32, n: u32, b: u32, k: u32) -> bool
     ensures { result ≡ not (meets a n b k) }
 {
-    if a as u64 + n as u64 <= b as u64 {
-        return true;
-    }
-    if b as u64 + k as u64 <= a as u64 {
-        return true;
-    }
-    if n == 0 {
-        return true;
-    }
-    k == 0
+    a as u64 + n as u64 <= b as u64 || b as u64 + k as u64 <= a as u64 || n == 0 || k == 0
 }
 
 impl Region {
@@ -61,45 +52,29 @@ impl Region {
     {
         let base = self.base;
         let length = self.length;
-        if base % 4 != 0 {
-            return false;
-        }
-        if length % 4 != 0 {
-            return false;
-        }
-        if length < 4 {
-            return false;
-        }
-        if length > 16777216 {
-            return false;
-        }
-        base as u64 + length as u64 <= 4294967280
+        base % 4 == 0
+            && length % 4 == 0
+            && 4 <= length
+            && length <= 16777216
+            && base as u64 + length as u64 <= 4294967280
     }
 
     // Whether it keeps the rules, begins at or behind an address and a place, and ends inside a buffer of so many bytes.
     pub fn follows(self, size: usize, address: u64, place: u64) -> bool
         ensures { result ≡ follows size address place self }
     {
-        if (self.base as u64) < address {
-            return false;
-        }
-        if (self.place as u64) < place {
-            return false;
-        }
-        if !self.ends_inside(size) {
-            return false;
-        }
-        self.keeps_rules()
+        address <= self.base as u64
+            && place <= self.place as u64
+            && self.ends_inside(size)
+            && self.keeps_rules()
     }
 
     // Whether it shares no address and no buffer byte with another.
     pub fn clear_of(self, other: Region) -> bool
         ensures { result ≡ clear self other }
     {
-        if apart(self.base, self.length, other.base, other.length) {
-            return apart(self.place, self.length, other.place, other.length);
-        }
-        false
+        apart(self.base, self.length, other.base, other.length)
+            && apart(self.place, self.length, other.place, other.length)
     }
 
     // Whether it ends inside a buffer of so many bytes.
@@ -123,21 +98,9 @@ impl Region {
     pub fn permits(self, right: Right, address: u32, length: u64) -> bool
         ensures { result ≡ permits self right address length }
     {
-        if length == 0 {
-            return false;
-        }
         let start = self.base as u64;
         let end = start + self.length as u64;
         let first = address as u64;
-        if first < start {
-            return false;
-        }
-        if end < first {
-            return false;
-        }
-        if end - first < length {
-            return false;
-        }
-        self.allows(right)
+        length != 0 && start <= first && first <= end && length <= end - first && self.allows(right)
     }
 }

@@ -8,16 +8,14 @@ ghost use Rattle.text.specs.Decimal as definition;
 pub fn width(n: u64) -> usize
     ensures { result ≡ definition.width n }
 {
-    let mut count: usize = 1;
     let mut rest = n / 10;
-    while count < 20 {
+    for count in 1..20 {
         if rest == 0 {
             return count;
         }
-        count += 1;
         rest /= 10;
     }
-    count
+    20
 }
 
 // The digits of a number, at a place. Where they do not fit, the output is left as it was.

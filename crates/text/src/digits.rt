@@ -9,9 +9,10 @@ fn digit(d: u64) -> u8
     ensures { result ≡ definition.digit d }
 {
     if d < 10 {
-        return (48 + d) as u8;
+        (48 + d) as u8
+    } else {
+        (87 + d) as u8
     }
-    (87 + d) as u8
 }
 
 // As many digits as the part has places.
@@ -19,10 +20,8 @@ fn put_all(part: &mut [u8], base: u64, n: u64)
     requires { (0 < base) × (base ≤ 16) }
     ensures { part.new ≡ digits base (length part.old) n }
 {
-    let mut i = part.len();
     let mut rest = n;
-    while i > 0 {
-        i -= 1;
+    for i in (0..part.len()).rev() {
         part[i] = digit(rest % base);
         rest /= base;
     }

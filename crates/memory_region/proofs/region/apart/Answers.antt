@@ -1,16 +1,13 @@
 -- `memory_region::region::apart` meets its contract: one range ends where the other begins, or before, or one is empty; else they share a number.
-use native.Mathlib.Omega.{arith}
-use Rattle.words.proofs.RangeLaws.{before, behind, apart-misses, meets-empty, misses-by-length}
+use Rattle.std.proofs.Common.{arith}
+use Rattle.std.proofs.lemmas.Grind.{common_steps}
+use Rattle.words.specs.Range.{meets}
 use Rattle.memory_region.proofs.region.apart.Goals as goal
 
-pub returns-then-a-n : goal.returns-then-a-n
-returns-then-a-n c = let x = c.args in simp (apart-misses x.a x.n x.b x.k (before (omega arith)))
-
-pub returns-then-b-k : goal.returns-then-b-k
-returns-then-b-k c = let x = c.args in simp (apart-misses x.a x.n x.b x.k (behind (omega arith)))
-
 pub returns-then-n-eq0 : goal.returns-then-n-eq0
-returns-then-n-eq0 c = let x = c.args in simp (meets-empty x.a x.n x.b x.k (omega arith))
+unfolding meets
+returns-then-n-eq0 c = grind (arith, common_steps)
 
-pub returns : goal.returns
-returns c = let x = c.args in misses-by-length x.a x.n x.b x.k (omega arith) (omega arith) (omega arith)
+pub returns-else-n-eq0 : goal.returns-else-n-eq0
+unfolding meets
+returns-else-n-eq0 c = grind (arith, common_steps)

@@ -10,29 +10,15 @@ use Rattle.words.proofs.StoreLaws.{store-part, store-fits, store-unfit}
 use Rattle.text.specs.Digits.{digits}
 use Rattle.text.proofs.DigitsLaws.{length_digits}
 use Rattle.text.proofs.digits.put.Goals as goal
-use Rattle.text.proofs.digits.put.Goals.{Then-fits}
-
--- the test that the digits fit
-inside : (c : Then-fits) → let x = c.args in x.at + x.count ≤ length x.output.now
-inside c = leb-true _ _ (sym c.fits.ensures ∙ c.if-fits.true)
-
-pub overflow_add-end : goal.overflow_add-end
-overflow_add-end c = omega (arith, inside (goal.at.overflow_add-end c).Then-fits)
-
-pub slice_bounds-put_all-end : goal.slice_bounds-put_all-end
-slice_bounds-put_all-end c = inside (goal.at.slice_bounds-put_all-end c).Then-fits
-
-pub put_all-requires : goal.put_all-requires
-put_all-requires c = c.requires
 
 pub returns-then-fits : goal.returns-then-fits
-returns-then-fits c = let d = c in
-    let x = d.args in
+returns-then-fits c = let x = c.args in
+    let inside = leb-true _ _ (sym c.fits.ensures ∙ c.if-fits.true) in
     let m = x.output.now in
     let w = c.put_all in
-    let l = mid_len x.at (x.at + x.count) m (inside (goal.at.returns-then-fits c).Then-fits) in
-    let f : x.at + length (digits x.base x.count x.n) ≤ length m = omega (arith, inside (goal.at.returns-then-fits c).Then-fits, length_digits x.base x.count x.n) in
-    store-part m x.at (x.at + x.count) w.new.part (omega arith) (inside (goal.at.returns-then-fits c).Then-fits) w.auto.part
+    let l = mid_len x.at (x.at + x.count) m inside in
+    let f : x.at + length (digits x.base x.count x.n) ≤ length m = omega (arith, inside, length_digits x.base x.count x.n) in
+    store-part m x.at (x.at + x.count) w.new.part (omega arith) inside w.auto.part
     ∙ ap (store m x.at) (w.ensures ∙ ap (λ (k : ℕ). digits x.base k x.n) (l ∙ omega arith))
     ∙ sym (store-fits m x.at (digits x.base x.count x.n) f)
 

@@ -1,6 +1,6 @@
 -- `word_blocks::swap::put` meets its contract: the whole words, and the bytes behind them, are one store.
 use mathlib.Core.Path.{◌≡◌, ap, sym, ◌∙◌}
-use Prim.Native.Nat.{◌+◌, ◌-◌, ◌*◌, ◌/◌, ◌≤◌}
+use Prim.Native.Nat.{◌+◌, ◌-◌, ◌*◌, ◌/◌}
 use native.Mathlib.Omega.{arith}
 use borrow.Author.Tests.{leb-true, leb-false}
 use lib.ListN.{length, take, drop}
@@ -12,25 +12,13 @@ use Rattle.word_blocks.specs.Swap.{swap_words}
 use Rattle.words.proofs.StoreLaws.{store-part, store-fits, store-unfit, store-behind}
 use Rattle.words.specs.Store.{store}
 use Rattle.word_blocks.proofs.swap.put.Goals as goal
-use Rattle.word_blocks.proofs.swap.put.Goals.{Then-fits}
-
--- the test that the bytes fit
-inside : (c : Then-fits) → let x = c.args in x.at + length x.source.now ≤ length x.s.now
-inside c = leb-true _ _ (sym c.fits.ensures ∙ c.if-fits.true)
-
-pub overflow_add-middle : goal.overflow_add-middle
-overflow_add-middle c = omega (arith, inside (goal.at.overflow_add-middle c).Then-fits)
-
-pub slice_bounds-swap_whole-end-then-fits : goal.slice_bounds-swap_whole-end-then-fits
-slice_bounds-swap_whole-end-then-fits c = omega (arith, inside (goal.at.slice_bounds-swap_whole-end-then-fits c).Then-fits)
 
 pub returns-then-fits : goal.returns-then-fits
-returns-then-fits c = let d = c in
-    let x = d.args in
+returns-then-fits c = let x = c.args in
     let w = c.swap_whole in
     let s = x.source.now in
     let k = length s / 4 * 4 in
-    let h = inside (goal.at.returns-then-fits c).Then-fits in
+    let h = leb-true _ _ (sym c.fits.ensures ∙ c.if-fits.true) in
     let z : k - 0 ≡ k = omega arith in
     let t : length (take k s) ≡ k = length-take-le k s (omega arith) in
     let a = store-part x.s.now x.at (x.at + k) w.new.part (omega arith) (omega arith) w.auto.part ∙ ap (store x.s.now x.at) (rw z at w.ensures) in
