@@ -1,4 +1,6 @@
 // What the bytes of a receiver say.
+#![tactic(auto, unfolding(crate::specs::Receiver::receiver_in), using(crate::proofs::ReceiverFlags::flags_map))]
+
 ghost use Rattle.std.specs.Prelude.{◌≡◌, ◌≤◌, take};
 ghost use Rattle.words.specs.Store.{store_if_fits};
 ghost use Rattle.flood_fill.specs.Receive.{is_done, is_marked, missing_in, lowest_in, word_bytes};
@@ -19,7 +21,6 @@ fn opened(block: u16, size: u16) -> Option<Block>
     }
 }
 
-#[tactic(auto, unfolding(crate::specs::Receiver::header_in))]
 pub(crate) fn header_of(bytes: &[u8; RECEIVER]) -> Header
     ensures { result ≡ header_in bytes.now }
 {
@@ -33,14 +34,12 @@ pub(crate) fn header_of(bytes: &[u8; RECEIVER]) -> Header
     }
 }
 
-#[tactic(auto, unfolding(crate::specs::Receiver::receiver_in))]
 pub(crate) fn is_done(bytes: &[u8; RECEIVER], block: u32) -> bool
     ensures { result ≡ is_done (receiver_in bytes.now) block }
 {
     is_set(&bytes[DONE..MARKS], block as usize)
 }
 
-#[tactic(auto, unfolding(crate::specs::Receiver::receiver_in))]
 pub(crate) fn is_marked(bytes: &[u8; RECEIVER], word_id: u32) -> bool
     ensures { result ≡ is_marked (receiver_in bytes.now) word_id }
 {
@@ -48,7 +47,6 @@ pub(crate) fn is_marked(bytes: &[u8; RECEIVER], word_id: u32) -> bool
 }
 
 // How many of the first `used` words have not come.
-#[tactic(auto, unfolding(crate::specs::Receiver::receiver_in))]
 pub(crate) fn missing_words(bytes: &[u8; RECEIVER], used: usize) -> u16
     requires { used ≤ 256 }
     ensures { result ≡ missing_in (take used (receiver_in bytes.now).marks) }
@@ -57,7 +55,6 @@ pub(crate) fn missing_words(bytes: &[u8; RECEIVER], used: usize) -> u16
 }
 
 // The lowest of them.
-#[tactic(auto, unfolding(crate::specs::Receiver::receiver_in))]
 pub(crate) fn lowest_missing(bytes: &[u8; RECEIVER], used: usize) -> u16
     requires { used ≤ 256 }
     ensures { result ≡ lowest_in (take used (receiver_in bytes.now).marks) }
@@ -66,7 +63,6 @@ pub(crate) fn lowest_missing(bytes: &[u8; RECEIVER], used: usize) -> u16
 }
 
 // The first `used` words go into the image, if they fit there.
-#[tactic(auto, unfolding(crate::specs::Receiver::receiver_in))]
 pub(crate) fn put_words(image: &mut [u8], at: usize, bytes: &[u8; RECEIVER], used: usize)
     requires { used ≤ 256 }
     ensures { image.new ≡ store_if_fits image.old at (word_bytes (take used (receiver_in bytes.now).words)) }

@@ -1,4 +1,6 @@
 // The four messages, each with the image that is received. A refused message changes nothing; its refusal names no place.
+#![tactic(auto, unfolding(crate::specs::Receiver::receive_bytes, crate::specs::Receiver::receiver_in, crate::specs::Receiver::written, flood_fill::specs::Receive::receive, flood_fill::specs::Receive::block_started, flood_fill::specs::Receive::data_came, flood_fill::specs::Refusals::tested, flood_fill::specs::Refusals::test_start, flood_fill::specs::Refusals::test_block_start))]
+
 ghost use Rattle.std.specs.Prelude.{◌≡◌};
 ghost use Rattle.flood_fill.specs.declared.message.Message.TheVariants as messages;
 ghost use Rattle.flood_fill.specs.Answer.{answer_is};
@@ -13,7 +15,6 @@ use flood_fill::test::{is_wanted, test};
 use outcome::refusal::Refusal;
 
 // Begins afresh. The image is not written.
-#[tactic(auto, unfolding(crate::specs::Receiver::receive_bytes, crate::specs::Receiver::receiver_in, flood_fill::specs::Receive::receive, flood_fill::specs::Refusals::tested, flood_fill::specs::Refusals::test_start))]
 pub fn start(
     bytes: &mut [u8; RECEIVER],
     image: &[u8],
@@ -30,7 +31,6 @@ pub fn start(
 }
 
 // Opens a block that is not done.
-#[tactic(auto, unfolding(crate::specs::Receiver::receive_bytes, crate::specs::Receiver::receiver_in, flood_fill::specs::Receive::receive, flood_fill::specs::Receive::block_started, flood_fill::specs::Refusals::tested, flood_fill::specs::Refusals::test_block_start))]
 pub fn block_start(
     bytes: &mut [u8; RECEIVER],
     image: &[u8],
@@ -50,7 +50,6 @@ pub fn block_start(
 }
 
 // Keeps a word of the open block that is not marked.
-#[tactic(auto, unfolding(crate::specs::Receiver::receive_bytes, crate::specs::Receiver::receiver_in, flood_fill::specs::Receive::receive, flood_fill::specs::Receive::data_came, crate::specs::Receiver::written))]
 pub fn block_data(
     bytes: &mut [u8; RECEIVER],
     image: &[u8],
@@ -76,7 +75,6 @@ pub fn block_data(
 }
 
 // Completes the open block, if every word of it came: its words go into the image.
-#[tactic(auto, unfolding(crate::specs::Receiver::receive_bytes, crate::specs::Receiver::receiver_in, flood_fill::specs::Receive::receive, flood_fill::specs::Receive::block_ended, flood_fill::specs::Receive::completed))]
 pub fn block_end(
     bytes: &mut [u8; RECEIVER],
     image: &mut [u8],

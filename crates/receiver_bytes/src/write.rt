@@ -1,4 +1,6 @@
 // What a message that is done changes of a receiver's bytes.
+#![tactic(auto, unfolding(crate::specs::Receiver::written))]
+
 ghost use Rattle.std.specs.Prelude.{◌≡◌, ◌<◌};
 ghost use Rattle.flood_fill.specs.declared.message.Message.TheVariants as messages;
 ghost use Rattle.receiver_bytes.specs.Receiver.{with_word, written};
@@ -7,7 +9,6 @@ use crate::layout::{COUNT, DONE, MARKS, OPEN_BLOCK, OPEN_SIZE, PLACES, RECEIVER,
 use words::put::{le_half, le_word};
 
 // All bytes anew: nothing is done, open or marked.
-#[tactic(auto, unfolding(crate::specs::Receiver::written, words::specs::Bytes::little_endian, words::specs::Store::store, words::specs::Store::store_if_fits))]
 pub(crate) fn begin(bytes: &mut [u8; RECEIVER], last_block: u16, size: u16)
     requires { last_block < 256 }
     ensures { bytes.new ≡ written bytes.old (messages.Start last_block size) }
@@ -18,7 +19,6 @@ pub(crate) fn begin(bytes: &mut [u8; RECEIVER], last_block: u16, size: u16)
 }
 
 // Opens a block, with no word marked.
-#[tactic(auto, unfolding(crate::specs::Receiver::written))]
 pub(crate) fn open(bytes: &mut [u8; RECEIVER], block: u16, size: u16)
     ensures { bytes.new ≡ written bytes.old (messages.BlockStart block size) }
 {
@@ -37,7 +37,6 @@ pub(crate) fn keep(bytes: &mut [u8; RECEIVER], word_id: usize, word: u32)
 }
 
 // A block is done, and none is open.
-#[tactic(auto, unfolding(crate::specs::Receiver::written))]
 pub(crate) fn close(bytes: &mut [u8; RECEIVER], block: usize)
     ensures { bytes.new ≡ written bytes.old (messages.BlockEnd block) }
 {
