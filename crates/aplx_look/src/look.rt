@@ -10,6 +10,7 @@ use outcome::answer::Load;
 use outcome::refusal::{Cause, Refusal};
 
 // The whole answer of a load. Nothing is stored.
+#[tactic(auto, unfolding(crate::specs::Look::aplx_look, crate::specs::Look::look))]
 pub fn look(map: Map, memory: &[u8], header: u32) -> Result<Load, Refusal>
     ensures { outcome_of result ≡ outcome_of_look (aplx_look map memory.now header) }
 {

@@ -11,6 +11,7 @@ use outcome::answer::Stop;
 use outcome::refusal::{Cause, Refusal};
 
 // The number of entries before the stop, and the stop. The place of a refusal is the entry at which the walk ended.
+#[tactic(auto, unfolding(crate::specs::Walk::walk))]
 pub(crate) fn walk_entries(map: Map, memory: &[u8], header: u32) -> Result<(usize, Stop), Refusal>
     requires { sound map (length memory.now) ≡ true }
     ensures { walk_is result ≡ walk (lookup map) memory.now header }

@@ -1,5 +1,5 @@
 -- `aplx_look::header::check_header` meets its contract: the loop's invariant: the test over the entries left gives what the test over all of them gives, and the bytes counted with those left are the bytes of all.
-use Rattle.std.proofs.Common.{◌≡◌, ap, sym, ◌∙◌, suc, ◌+◌, ◌-◌, ◌*◌, ◌≤◌, zero-add, arith, List, length, ℕ}
+use Rattle.std.proofs.Common.{◌≡◌, ap, sym, ◌∙◌, ◌+◌, ◌*◌, ◌≤◌, arith, List, length, ℕ}
 use Rattle.memory_region.specs.declared.region.Right.TheVariants.{Read}
 use Rattle.outcome.specs.Outcome.{stop_of}
 use Rattle.outcome.specs.Destinations.{stored_in}
@@ -7,7 +7,6 @@ use Rattle.memory_map.specs.declared.map.Map.{Map}
 use Rattle.memory_map.specs.Lookup.{lookup, place_of}
 use Rattle.memory_map.proofs.LookupLaws.{lawful, found-place}
 use Rattle.aplx_command.specs.Command.{Command, command_at}
-use Rattle.aplx_command.specs.Code.{command_is}
 use Rattle.aplx_look.specs.Walk.{commands}
 use Rattle.aplx_look.specs.Look.{destinations, meets_header}
 use Rattle.aplx_look.specs.Look.Header.{bytes_of}
@@ -40,12 +39,6 @@ few c =
       rw (bytes c, found-place e.found-there) (goes-bytes laws a c.loop-i.i (command_at x.memory.now e.place a) e.passes),
       laws.below Read a 16 e.place e.found-there,
     )
-
-pub loop-i-init : goal.loop-i-init
-loop-i-init c = let x = c.args in
-    let z : 16 * (x.count + 1) ≡ 16 * suc x.count = omega arith in
-    let k : x.count - 0 ≡ x.count = omega arith in
-    record { at = omega arith; few = omega arith; bytes = simp (k, zero-add); tests = simp (k, z) }
 
 pub returns-then-meets_header : goal.returns-then-meets_header
 returns-then-meets_header c = let l = c.loop-i in

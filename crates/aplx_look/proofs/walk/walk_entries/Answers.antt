@@ -1,9 +1,9 @@
 -- `aplx_look::walk::walk_entries` meets its contract: the loop's invariant: the walk from the entry `i` on gives what the whole walk gives.
-use Rattle.std.proofs.Common.{◌≡◌, refl, sym, ◌∙◌, arith, length}
+use Rattle.std.proofs.Common.{◌≡◌, sym, ◌∙◌, arith, length}
 use Rattle.memory_map.specs.Lookup.{lookup}
 use Rattle.memory_map.proofs.LookupLaws.{lawful}
 use Rattle.memory_region.specs.declared.region.Right.TheVariants.{Read}
-use Rattle.aplx_look.specs.Walk.{goes, judge, walk}
+use Rattle.aplx_look.specs.Walk.{goes, judge}
 use Rattle.aplx_look.proofs.WalkLaws.{goes-found, walk-goes, walk-halts, walk-tired}
 use Rattle.aplx_look.proofs.walk.walk_entries.Goals as goal
 use Rattle.aplx_look.proofs.walk.walk_entries.Goals.{In-Ok-None}
@@ -11,10 +11,6 @@ use Rattle.aplx_look.proofs.walk.walk_entries.Goals.{In-Ok-None}
 -- the entry passed its tests
 passed : (c : In-Ok-None) → judge (lookup c.args.map) c.args.memory.now c.loop-i.address c.loop-i.i ≡ goes
 passed c = sym (rw c.in-Ok-None.field-0-is at c.in-Ok-None.ensures)
-
-pub loop-i-init : goal.loop-i-init
-unfolding walk
-loop-i-init c = refl
 
 pub overflow_add-address : goal.overflow_add-address
 overflow_add-address c = let x = c.args in
