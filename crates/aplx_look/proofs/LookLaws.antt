@@ -1,5 +1,5 @@
 -- Laws of the look: what entries that passed their tests may do, and what an accepted load says.
-use Rattle.std.specs.Prelude.{◌≡◌, refl, Bool, true, false, not, List, [], ℕ, suc, ◌+◌, ◌*◌, ◌%◌, ◌≤◌, ◌<◌, eqb, length, if◌then◌else◌}
+use Rattle.std.specs.Prelude.{◌≡◌, refl, Bool, true, false, not, List, [], ℕ, suc, ◌*◌, ◌%◌, ◌≤◌, eqb, length, if◌then◌else◌}
 use Rattle.std.proofs.Common.{◌∙◌, arith, eqb-true}
 use Rattle.words.specs.Round.{round_up}
 use Rattle.words.proofs.RoundLaws.{round-multiple}
@@ -9,7 +9,7 @@ use Rattle.memory_map.specs.declared.map.Map.{Map}
 use Rattle.outcome.specs.Outcome.{Stop, Ending, stops, refuses, accepted, outcome_at}
 use Rattle.outcome.specs.Destinations.{stored_in}
 use Rattle.memory_map.specs.Map.{sound}
-use Rattle.memory_map.specs.Lookup.{Lookup, Found, at, refused, found, lookup, place_of}
+use Rattle.memory_map.specs.Lookup.{Lookup, Found, at, refused, found, lookup}
 use Rattle.memory_map.proofs.LookupLaws.{Lawful, found_at}
 use Rattle.aplx_command.specs.Command.{Command, copy, fill, exec, other, command_of, command_at}
 use Rattle.aplx_look.specs.Walk.{Verdict, goes, halts, permitted, tests, walk, commands}
@@ -18,7 +18,7 @@ use Rattle.aplx_look.proofs.WalkLaws.{walk-passed, length-commands}
 use Rattle.aplx_look.specs.Look.Header.{bytes_of}
 use Rattle.aplx_look.proofs.LookHeader.{same_stop, clear-from}
 use Rattle.aplx_look.specs.Look.Laws.{Ready, Permitted}
-use Rattle.aplx_look.specs.Look.{destinations, meets_header, header_test, tested, look_of, look, aplx_look, outcome_of_look}
+use Rattle.aplx_look.specs.Look.{destinations, header_test, tested, look_of, look, aplx_look, outcome_of_look}
 
 -- ---- a command that passed its tests
 not-halted : (t : Bool) (x : Ending) {v : Verdict} → (if t then halts x else v) ≡ goes → v ≡ goes

@@ -1,20 +1,19 @@
--- What the cases of the code's enums say, in the terms of the definitions.
-use Rattle.outcome.specs.Outcome.{stop_of, Ending, stops, refuses}
-use Rattle.aplx_look.specs.declared.judge.Verdict as CodeVerdict
-use Rattle.aplx_look.specs.declared.judge.Verdict.TheVariants as verdict
-use Rattle.aplx_look.specs.declared.walk.Ending as CodeEnding
-use Rattle.aplx_look.specs.declared.walk.Ending.TheVariants as ending
-use Rattle.aplx_look.specs.declared.walk.Walked.{Walked}
+-- What the code's answers say, in the terms of the definitions.
+use Rattle.std.specs.Prelude.{ℕ, Option, Some, None, Result, Ok, Err}
+use Rattle.outcome.specs.declared.answer.Stop as CodeStop
+use Rattle.outcome.specs.declared.refusal.Cause.{Cause}
+use Rattle.outcome.specs.declared.refusal.Refusal.{Refusal}
+use Rattle.outcome.specs.Refusal.{number_of}
+use Rattle.outcome.specs.Outcome.{stop_of, stops, refuses}
 use Rattle.aplx_look.specs.Walk.{Verdict, goes, halts, Walk}
 
-abbrev pub verdict_is : CodeVerdict.Verdict → Verdict
-verdict_is verdict.Goes = goes
-verdict_is (verdict.Stops s) = halts (stops (stop_of s))
-verdict_is (verdict.Refused r) = halts (refuses r.number r.place)
+-- the tests of the entry with index i
+abbrev pub verdict_is : ℕ → Result (Option CodeStop.Stop) Cause → Verdict
+verdict_is i (Ok None) = goes
+verdict_is i (Ok (Some s)) = halts (stops (stop_of s))
+verdict_is i (Err c) = halts (refuses (number_of c) i)
 
-abbrev pub ending_is : CodeEnding.Ending → Ending
-ending_is (ending.Stops s) = stops (stop_of s)
-ending_is (ending.Refused r) = refuses r.number r.place
-
-abbrev pub walk_is : Walked → Walk
-walk_is w = record { count = w.count; ending = ending_is w.ending }
+-- the walk. A refused one ended at the entry that its refusal names
+abbrev pub walk_is : Result (ℕ × CodeStop.Stop) Refusal → Walk
+walk_is (Ok w) = record { count = w.0; ending = stops (stop_of w.1) }
+walk_is (Err r) = record { count = r.place; ending = refuses (number_of r.cause) r.place }

@@ -12,28 +12,22 @@ ghost use Rattle.aplx_command.specs.Code.{command_is};
 use aplx_command::command::Command;
 use memory_map::map::{Map, place};
 use memory_region::region::Right;
-use outcome::answer::{Answer, Refusal, Stop};
-
-// The refusal of a destination over the entries read.
-const MEETS_HEADER: u32 = 8;
+use outcome::answer::{Load, Stop};
+use outcome::refusal::{Cause, Refusal};
 
 // Whether the destination shares a byte with so many addresses from the header on.
+#[tactic(auto, unfolding(crate::specs::Look::meets_header))]
 fn meets_header(command: Command, header: u32, size: u64) -> bool
     ensures { result ≡ meets_header header size (command_is command) }
 {
     match command {
-        Command::Copy {
-            to,
-            from: _,
+        Command::Copy { to, length, .. } | Command::Fill { to, length, .. } => words::range::share(
+            to as u64,
             length,
-        } => words::range::share(to as u64, length, header as u64, size),
-        Command::Fill {
-            to,
-            length,
-            word: _,
-        } => words::range::share(to as u64, length, header as u64, size),
-        Command::Exec { address: _ } => false,
-        Command::Other { command: _ } => false,
+            header as u64,
+            size,
+        ),
+        Command::Exec { .. } | Command::Other { .. } => false,
     }
 }
 
@@ -42,46 +36,37 @@ fn bytes_of(command: Command) -> u64
     ensures { result ≡ bytes_of (command_is command) }
 {
     match command {
-        Command::Copy {
-            to: _,
-            from: _,
-            length,
-        } => length,
-        Command::Fill {
-            to: _,
-            length,
-            word: _,
-        } => length,
-        Command::Exec { address: _ } => 0,
-        Command::Other { command: _ } => 0,
+        Command::Copy { length, .. } | Command::Fill { length, .. } => length,
+        Command::Exec { .. } | Command::Other { .. } => 0,
     }
 }
 
 // The answer of a load whose walk passed so many entries and then found its stop.
-pub(crate) fn check_header(map: Map, memory: &[u8], header: u32, count: usize, stop: Stop) -> Answer
+pub(crate) fn check_header(
+    map: Map,
+    memory: &[u8],
+    header: u32,
+    count: usize,
+    stop: Stop,
+) -> Result<Load, Refusal>
     requires { (sound map (length memory.now) ≡ true) × Passed (lookup map) memory.now header count × (count < 256) }
     ensures { outcome_of result ≡ outcome_of_look (look_of header (commands (lookup map) memory.now header count) (stops (stop_of stop))) }
 {
     let size = 16 * (count as u64 + 1);
     let mut address = header;
     let mut stored: u64 = 0;
-    let mut i: usize = 0;
-    while i < count {
+    for i in 0..count {
         let entry = place(map.lookup(Right::Read, address, 16));
         let command = aplx_command::command::command_at(memory, entry, address);
         if meets_header(command, header, size) {
-            return Answer::Refused(Refusal {
-                number: MEETS_HEADER,
-                place: i,
-            });
+            return Err(Cause::MeetsHeader.at(i));
         }
         stored += bytes_of(command);
         address += 16;
-        i += 1;
     }
-    Answer::Accepted {
+    Ok(Load {
         stop,
         taken: count,
         stored,
-    }
+    })
 }

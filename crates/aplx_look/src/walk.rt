@@ -5,57 +5,24 @@ ghost use Rattle.memory_map.specs.Lookup.{lookup};
 ghost use Rattle.aplx_look.specs.Walk.{walk};
 ghost use Rattle.aplx_look.specs.Code.{walk_is};
 
-use crate::judge::Verdict;
+use crate::judge::judge_entry;
 use memory_map::map::Map;
-use outcome::answer::{Refusal, Stop};
+use outcome::answer::Stop;
+use outcome::refusal::{Cause, Refusal};
 
-// The refusal of 256 entries of which none stops.
-const NO_STOP: u32 = 7;
-
-#[derive(Clone, Copy)]
-pub(crate) enum Ending {
-    Stops(Stop),
-    Refused(Refusal),
-}
-
-// How the walk ended, after so many entries.
-#[derive(Clone, Copy)]
-pub(crate) struct Walked {
-    pub(crate) count: usize,
-    pub(crate) ending: Ending,
-}
-
-pub(crate) fn walk_entries(map: Map, memory: &[u8], header: u32) -> Walked
+// The number of entries before the stop, and the stop. The place of a refusal is the entry at which the walk ended.
+#[tactic(auto, unfolding(crate::specs::Walk::walk))]
+pub(crate) fn walk_entries(map: Map, memory: &[u8], header: u32) -> Result<(usize, Stop), Refusal>
     requires { sound map (length memory.now) ≡ true }
     ensures { walk_is result ≡ walk (lookup map) memory.now header }
 {
     let mut address = header;
-    let mut i: usize = 0;
-    while i < 256 {
-        match crate::judge::judge_entry(map, memory, address, i) {
-            Verdict::Goes => {
-                address += 16;
-                i += 1;
-            }
-            Verdict::Stops(stop) => {
-                return Walked {
-                    count: i,
-                    ending: Ending::Stops(stop),
-                };
-            }
-            Verdict::Refused(refusal) => {
-                return Walked {
-                    count: i,
-                    ending: Ending::Refused(refusal),
-                };
-            }
+    for i in 0..256 {
+        match judge_entry(map, memory, address, i) {
+            Ok(None) => address += 16,
+            Ok(Some(stop)) => return Ok((i, stop)),
+            Err(cause) => return Err(cause.at(i)),
         }
     }
-    Walked {
-        count: 256,
-        ending: Ending::Refused(Refusal {
-            number: NO_STOP,
-            place: 256,
-        }),
-    }
+    Err(Cause::NoStop.at(256))
 }

@@ -1,11 +1,7 @@
-use mathlib.Core.Path.{◌≡◌}
-use Prim.Native.Nat.{◌-◌, ◌≤◌}
-use Rattle.aplx_look.specs.Walk.{walk_for, walk}
+use Rattle.std.proofs.Common.{◌≡◌, ◌-◌}
 use Rattle.memory_map.specs.Lookup.{lookup}
+use Rattle.aplx_look.specs.Walk.{walk_for, walk}
 use Rattle.aplx_look.proofs.walk.walk_entries.Given as goal
 
 abbrev pub invariant-loop-i : goal.invariant-loop-i
-invariant-loop-i l = (walk_for (256 - l.i) (lookup l.map) l.memory l.address l.i ≡ walk (lookup l.map) l.memory l.header) × (l.i ≤ 256)
-
-abbrev pub decreases-loop-i : goal.decreases-loop-i
-decreases-loop-i l = 256 - l.i
+invariant-loop-i l = walk_for (256 - l.i) (lookup l.map) l.memory l.address l.i ≡ walk (lookup l.map) l.memory l.header
