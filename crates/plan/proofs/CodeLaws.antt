@@ -1,6 +1,6 @@
 -- Laws of the code's readings of an accepted plan, over the unit of the medium: the piece that the code reads at an index is the plan's,
 -- and so are the sums that the reader answers.
-use Rattle.std.specs.Prelude.{◌≡◌, refl, List, [], ◌∷◌, ◌++◌, ℕ, suc, ◌+◌, ◌*◌, ◌≤◌, ◌<◌, length, take, drop, get_or, Result, Ok}
+use Rattle.std.specs.Prelude.{◌≡◌, refl, List, [], ◌∷◌, ◌++◌, ℕ, suc, ◌+◌, ◌≤◌, ◌<◌, length, take, drop, get_or, Result, Ok}
 use Rattle.std.proofs.Common.{ap, sym, ◌∙◌, add-one, arith, take-suc, drop-cons, Fits}
 use Rattle.std.specs.Int.{w8}
 use Rattle.words.specs.Choice.{All}
@@ -14,9 +14,10 @@ use Rattle.plan.specs.Plan.{Piece, run, data_of, filled_by, put_bytes, fill_byte
 use Rattle.plan.specs.Packable.{Packable}
 use Rattle.plan.proofs.PlanLaws.{Passed, row-passed, data-length, packable, read-header, read_count, read-piece}
 use Rattle.plan.proofs.PlanSums.{bytes_most}
-use Rattle.plan.specs.Packed.{pieces_in, plan_pieces, Accepted}
+use Rattle.plan.specs.Packed.{plan_pieces, Accepted}
 use Rattle.plan.specs.Code.{put_length, fill_length, row_is, row_of, piece_is, reads, outcome_of, outcome_is}
 use Rattle.plan.specs.Code.Packer.{Writable}
+pub use Rattle.plan.specs.Code.Packer.{Counted}
 
 -- ---- a slice
 -- what is known of the elements of a slice of bytes
@@ -80,15 +81,6 @@ found unit s b accepted i h p e =
     found-piece unit s (plan_pieces unit s) i p h same (read-writable unit s b inside i p is-good)
 
 -- ---- all pieces
--- what a reader gave is n pieces, with p put bytes and f fill bytes
-pub record Counted (t : Read) (n p f : ℕ) : Type 0 where
-  pub accepted : t ≡ pieces (pieces_in t)
-  pub count : n ≡ length (pieces_in t)
-  pub puts : p ≡ put_bytes (pieces_in t)
-  pub fills : f ≡ fill_bytes (pieces_in t)
-  pub few : n ≤ 64
-  pub most : p + f ≤ 65536 * n
-
 -- pieces of a reader that gives at most 64, each packable
 pub counted-pieces : (unit : ℕ) (t : Read) → ((ps : List Piece) → t ≡ pieces ps → (length ps ≤ 64) × All (Packable unit) ps)
     → {r : Result Pieces Refusal} → outcome_is r ≡ outcome_of t → {v : Pieces} → r ≡ Ok v → Counted t v.count v.puts v.fills

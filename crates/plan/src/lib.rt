@@ -3,3 +3,4 @@
 
 pub mod piece; // one piece of a plan
 pub mod read; // the whole plan
+pub mod pack; // writing the image of what was read

@@ -1,10 +1,10 @@
 -- What the code of a packer, and of the reader of images, asks and answers, in the terms of the definitions.
-use Rattle.std.specs.Prelude.{◌≡◌, List, ℕ, ◌+◌, ◌%◌, ◌≤◌, length, Result, Ok, Err}
+use Rattle.std.specs.Prelude.{◌≡◌, List, ℕ, ◌+◌, ◌*◌, ◌%◌, ◌≤◌, length, Result, Ok, Err}
 use Rattle.outcome.specs.declared.refusal.Refusal.{Refusal}
 use Rattle.outcome.specs.Refusal.{number_of}
 use Rattle.plan.specs.declared.piece.Piece as CodePiece
 use Rattle.plan.specs.declared.piece.Piece.TheVariants.{Put, Fill, Run}
-use Rattle.plan.specs.Plan.{Piece, Read, pieces}
+use Rattle.plan.specs.Plan.{Piece, Read, pieces, put_bytes, fill_bytes}
 use Rattle.plan.specs.Packed.{pieces_in, Outcome, refusal, sized}
 
 -- a piece with its data in s that can be written to a medium with this unit
@@ -18,6 +18,15 @@ pub record ReadAs (t : Read) (count : ℕ) : Type 0 where
   pub accepted : t ≡ pieces (pieces_in t)
   pub counts : count ≡ length (pieces_in t)
   pub few : count ≤ 64
+
+-- what a reader gave is n pieces, with p put bytes and f fill bytes
+pub record Counted (t : Read) (n p f : ℕ) : Type 0 where
+  pub accepted : t ≡ pieces (pieces_in t)
+  pub count : n ≡ length (pieces_in t)
+  pub puts : p ≡ put_bytes (pieces_in t)
+  pub fills : f ≡ fill_bytes (pieces_in t)
+  pub few : n ≤ 64
+  pub most : p + f ≤ 65536 * n
 
 -- what a reader gave is so many pieces, and n bytes hold the image of them
 pub record ImageFits (image : List Piece → List ℕ) (t : Read) (count n : ℕ) : Type 0 where
