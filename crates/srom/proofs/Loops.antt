@@ -2,7 +2,7 @@
 use mathlib.Core.Path.{◌≡◌}
 use mathlib.Core.List.{List, ◌∷◌}
 use Prim.Native.Nat.{ℕ, ◌+◌, ◌-◌, ◌≤◌}
-use native.Mathlib.Nat.{zero-add, add-zero}
+use native.Mathlib.Nat.{add-zero}
 use native.Mathlib.Omega.{arith}
 use lib.ListN.{length}
 use Rattle.words.specs.Store.{store}
@@ -11,14 +11,11 @@ use Rattle.outcome.specs.Destinations.{stored_in}
 use Rattle.memory_map.specs.Lookup.{Lookup}
 use Rattle.srom.specs.Walk.{Block, block_in, block, halt, item_at, Walk, walk, pads_end}
 use Rattle.srom.proofs.WalkLaws.{BlockFacts, block-facts, walk_block, walk-halt, walk-pads, pads-low}
-use Rattle.srom.specs.Load.{destinations, store_blocks, outcome_of_walk}
+use Rattle.srom.specs.Load.{destinations, store_blocks}
 
 -- the outcome of a walk, after t blocks and n bytes before it
 abbrev pub counted : ℕ → ℕ → Walk → Outcome
 counted t n w = outcome_at w.ending (t + length w.blocks) (n + stored_in (destinations w.blocks))
-
-pub counted_none : (w : Walk) → counted 0 0 w ≡ outcome_of_walk w
-counted_none w = simp zero-add
 
 counted-more : (t n : ℕ) (x : Block) (w : Walk) {k : ℕ} → length x.bytes ≡ k
     → counted t n (record { blocks = x ∷ w.blocks; ending = w.ending }) ≡ counted (t + 1) (n + k) w

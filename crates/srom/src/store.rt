@@ -5,7 +5,7 @@ ghost use Rattle.memory_map.specs.Lookup.{lookup};
 ghost use Rattle.srom.specs.Walk.{walk};
 ghost use Rattle.srom.specs.Load.{store_blocks};
 
-use crate::walk::Item;
+use crate::walk::{Item, next_item};
 use memory_map::map::Map;
 
 // The blocks from an offset to the stop, in order.
@@ -14,24 +14,17 @@ pub(crate) fn store_blocks(map: Map, memory: &mut [u8], s: &[u8], offset: usize)
     ensures { memory.new ≡ store_blocks (walk (lookup map) s.now offset).blocks memory.old }
 {
     let mut next = offset;
-    loop {
-        let at = crate::walk::pads_end(s, next);
-        match crate::walk::item_at(map, s, at) {
-            Item::Block {
-                address: _,
-                place,
-                from,
-                to,
-            } => {
-                word_blocks::swap::put(memory, place, &s[from..to]);
-                next = to;
-            }
-            Item::Halt(_) => {
-                return;
-            }
-            Item::Refused(_) => {
-                return;
-            }
-        }
+    while let Ok(item) = next_item(map, s, next) {
+        let Item::Block {
+            place,
+            from,
+            to,
+            ..
+        } = item
+        else {
+            return;
+        };
+        word_blocks::swap::put(memory, place, &s[from..to]);
+        next = to;
     }
 }

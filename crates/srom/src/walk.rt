@@ -5,18 +5,19 @@ ghost use Rattle.memory_map.specs.Lookup.{lookup};
 ghost use Rattle.memory_map.specs.Entry.{run_entry};
 ghost use Rattle.srom.specs.Walk.{run_of, data_block, block_at, item_at, walk, pads_end};
 ghost use Rattle.srom.specs.Load.{outcome_of_walk};
-ghost use Rattle.srom.specs.Code.{item_of};
+ghost use Rattle.srom.specs.Code.{item_of, block_of};
 
-use memory_map::map::{Found, Map, RunEntry};
+use memory_map::map::Map;
 use memory_region::region::Right;
-use outcome::answer::{Answer, CUT_SHORT, NOT_ALIGNED, Refusal, Stop};
+use outcome::answer::{Load, Stop};
+use outcome::refusal::{Cause, Refusal};
 
 const PAD: u8 = 0x55;
 
 const START: u8 = 0x3a;
 
 // An item that is no pad. A block's data stands from `from` to `to`, where the next item begins.
-#[derive(Clone, Copy)]
+#[derive(Clone, Copy, Debug, PartialEq, Eq)]
 pub(crate) enum Item {
     Block {
         address: u32,
@@ -25,7 +26,6 @@ pub(crate) enum Item {
         to: usize,
     },
     Halt(Stop),
-    Refused(Refusal),
 }
 
 // The offset of the first byte from an offset on that is no pad.
@@ -46,59 +46,44 @@ pub(crate) fn pads_end(s: &[u8], offset: usize) -> usize
 }
 
 // A block without data, at an offset: a run.
-fn run_item(map: Map, at: usize, address: u32) -> Item
+fn run_item(map: Map, at: usize, address: u32) -> Result<Item, Cause>
     requires { at + 7 ≤ 16777216 }
-    ensures { item_of result ≡ run_of (run_entry (lookup map) address) at }
+    ensures { block_of at result ≡ run_of (run_entry (lookup map) address) at }
 {
-    match map.run_entry(address) {
-        RunEntry::Legal(entry) => {
-            let resume = (at + 7) as u32;
-            Item::Halt(Stop::Run { entry, resume })
-        }
-        RunEntry::Refused(number) => Item::Refused(Refusal { number, place: at }),
-    }
+    let entry = map.run_entry(address)?;
+    let resume = (at + 7) as u32;
+    Ok(Item::Halt(Stop::Run { entry, resume }))
 }
 
 // A block of so many words for an address, at an offset.
-fn data_item(map: Map, s: &[u8], at: usize, words: u16, address: u32) -> Item
+fn data_item(map: Map, s: &[u8], at: usize, words: u16, address: u32) -> Result<Item, Cause>
     requires { (at + 7 ≤ length s.now) × (length s.now ≤ 16777216) }
-    ensures { item_of result ≡ data_block (lookup map) s.now at words address }
+    ensures { block_of at result ≡ data_block (lookup map) s.now at words address }
 {
     if address % 4 != 0 {
-        return Item::Refused(Refusal {
-            number: NOT_ALIGNED,
-            place: at,
-        });
+        return Err(Cause::NotAligned);
     }
     let from = at + 7;
     let size = 4 * (words as usize);
     if s.len() - from < size {
-        return Item::Refused(Refusal {
-            number: CUT_SHORT,
-            place: at,
-        });
+        return Err(Cause::CutShort);
     }
-    match map.lookup(Right::Write, address, size as u64) {
-        Found::At(place) => Item::Block {
-            address,
-            place,
-            from,
-            to: from + size,
-        },
-        Found::Refused(number) => Item::Refused(Refusal { number, place: at }),
-    }
+    let place = map.lookup(Right::Write, address, size as u64)?;
+    Ok(Item::Block {
+        address,
+        place,
+        from,
+        to: from + size,
+    })
 }
 
-// The block whose start byte is at an offset.
-fn block_item(map: Map, s: &[u8], at: usize) -> Item
+// The block whose start byte is at an offset. A refusal of it has that place.
+fn block_item(map: Map, s: &[u8], at: usize) -> Result<Item, Cause>
     requires { (at < length s.now) × (length s.now ≤ 16777216) }
-    ensures { item_of result ≡ block_at (lookup map) s.now at }
+    ensures { block_of at result ≡ block_at (lookup map) s.now at }
 {
     if s.len() - at < 7 {
-        return Item::Refused(Refusal {
-            number: CUT_SHORT,
-            place: at,
-        });
+        return Err(Cause::CutShort);
     }
     let length = at + 1;
     let address = at + 3;
@@ -111,24 +96,32 @@ fn block_item(map: Map, s: &[u8], at: usize) -> Item
 }
 
 // The item at an offset where no pad stands.
-pub(crate) fn item_at(map: Map, s: &[u8], at: usize) -> Item
+fn item_at(map: Map, s: &[u8], at: usize) -> Result<Item, Refusal>
     requires { (length s.now ≤ 16777216) × (at < length s.now → get_or s.now at 0 ≡ 0x55 → ⊥) }
     ensures { item_of result ≡ item_at (lookup map) s.now at }
 {
     if at >= s.len() {
-        return Item::Refused(Refusal {
-            number: CUT_SHORT,
-            place: s.len(),
-        });
+        return Err(Cause::CutShort.at(s.len()));
     }
     if s[at] == START {
-        return block_item(map, s, at);
+        return match block_item(map, s, at) {
+            Ok(item) => Ok(item),
+            Err(cause) => Err(cause.at(at)),
+        };
     }
-    Item::Halt(Stop::End { place: at })
+    Ok(Item::Halt(Stop::End { place: at }))
+}
+
+// The first item from an offset on that is no pad.
+pub(crate) fn next_item(map: Map, s: &[u8], offset: usize) -> Result<Item, Refusal>
+    requires { length s.now ≤ 16777216 }
+    ensures { item_of result ≡ item_at (lookup map) s.now (pads_end s.now offset) }
+{
+    item_at(map, s, pads_end(s, offset))
 }
 
 // The walk from an offset to the stop, with the blocks and bytes on the way counted.
-pub(crate) fn walk_blocks(map: Map, s: &[u8], offset: usize) -> Answer
+pub(crate) fn walk_blocks(map: Map, s: &[u8], offset: usize) -> Result<Load, Refusal>
     requires { length s.now ≤ 16777216 }
     ensures { outcome_of result ≡ outcome_of_walk (walk (lookup map) s.now offset) }
 {
@@ -136,27 +129,18 @@ pub(crate) fn walk_blocks(map: Map, s: &[u8], offset: usize) -> Answer
     let mut taken: usize = 0;
     let mut stored: u64 = 0;
     loop {
-        let at = pads_end(s, next);
-        match item_at(map, s, at) {
-            Item::Block {
-                address: _,
-                place: _,
-                from,
-                to,
-            } => {
+        match next_item(map, s, next)? {
+            Item::Block { from, to, .. } => {
                 taken += 1;
                 stored += (to - from) as u64;
                 next = to;
             }
             Item::Halt(stop) => {
-                return Answer::Accepted {
+                return Ok(Load {
                     stop,
                     taken,
                     stored,
-                };
-            }
-            Item::Refused(refusal) => {
-                return Answer::Refused(refusal);
+                });
             }
         }
     }

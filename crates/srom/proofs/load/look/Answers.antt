@@ -8,11 +8,11 @@ use Rattle.srom.proofs.load.look.Goals as goal
 
 pub returns-then-not-sound : goal.returns-then-not-sound
 unfolding srom_look
-returns-then-not-sound c = simp (sym c.sound.ensures ∙ not-true _ c.if-not-sound.true-raw)
+returns-then-not-sound c = simp (sym c.sound.ensures ∙ not-true _ c.if-not-sound.true-raw, c.at.ensures)
 
 pub returns-then-rom-gt16777216 : goal.returns-then-rom-gt16777216
 unfolding srom_look look
-returns-then-rom-gt16777216 c = let x = c.args in simp (sym c.sound.ensures ∙ not-false _ c.if-not-sound.false-raw, lt-ltb 16777216 (length x.rom.now) (omega arith))
+returns-then-rom-gt16777216 c = let x = c.args in simp (sym c.sound.ensures ∙ not-false _ c.if-not-sound.false-raw, lt-ltb 16777216 (length x.rom.now) (omega arith), c.at-then-rom-gt16777216.ensures)
 
 pub returns : goal.returns
 unfolding srom_look look

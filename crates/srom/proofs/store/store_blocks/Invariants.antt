@@ -6,8 +6,8 @@ use Rattle.srom.specs.Walk.{walk}
 use Rattle.memory_map.specs.Lookup.{lookup}
 use Rattle.srom.proofs.store.store_blocks.Given as goal
 
-abbrev pub invariant-loop-place : goal.invariant-loop-place
-invariant-loop-place l = (store_blocks (walk (lookup l.map) l.s l.next).blocks l.memory ≡ store_blocks (walk (lookup l.map) l.s l.offset).blocks l.initial.memory) × (length l.memory ≡ length l.initial.memory)
+abbrev pub invariant-loop-item : goal.invariant-loop-item
+invariant-loop-item l = (store_blocks (walk (lookup l.map) l.s l.next).blocks l.memory ≡ store_blocks (walk (lookup l.map) l.s l.offset).blocks l.initial.memory) × (length l.memory ≡ length l.initial.memory)
 
-abbrev pub decreases-loop-place : goal.decreases-loop-place
-decreases-loop-place l = length l.s - l.next
+abbrev pub decreases-loop-item : goal.decreases-loop-item
+decreases-loop-item l = length l.s - l.next

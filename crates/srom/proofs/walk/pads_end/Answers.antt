@@ -1,7 +1,6 @@
 -- `srom::walk::pads_end` meets its contract: the loop's invariant: the pads from `i` on end where those from the offset on do.
 use mathlib.Core.Path.{sym, ◌∙◌}
 use native.Mathlib.Omega.{arith}
-use Prim.Native.Nat.{◌-◌}
 use Rattle.srom.proofs.WalkLaws.{pads-next, pads-none, pads-past}
 use Rattle.srom.proofs.walk.pads_end.Goals as goal
 
