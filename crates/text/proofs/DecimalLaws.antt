@@ -1,6 +1,8 @@
 -- Laws of decimal digits.
 use Rattle.std.specs.Prelude.{◌≡◌, refl, Bool, true, false, [], ◌∷◌, eqb, length, if◌then◌else◌}
-use Prim.Native.Nat.{ℕ, zero, suc, ◌+◌, ◌-◌, ◌/◌, ◌≤◌, ◌<◌}
+use Prim.Native.Nat.{ℕ, zero, suc, ◌+◌, ◌-◌, ◌*◌, ◌/◌, ◌^◌, ◌≤◌, ◌<◌}
+use Rattle.std.proofs.Common.{ap, pow-suc}
+use Rattle.std.proofs.Math.Nat.{one-le-pow}
 use native.Mathlib.Omega.{arith}
 use borrow.Author.Tests.{eq-eqb, ne_eqb}
 use Rattle.text.specs.Digits.{digits}
@@ -29,6 +31,25 @@ module _ (count rest : ℕ) where
   pub leading_end : 20 ≤ count → leading (20 - count) rest ≡ 0
   unfolding leading
   leading_end h = let z : 20 - count ≡ 0 = omega arith in rw z
+
+-- by the greatest power of ten that is not above the number
+leading-power : (k m n : ℕ) → k ≤ m → 10 ^ k ≤ n → n < 10 * 10 ^ k → leading m (n / 10) ≡ k
+unfolding leading
+leading-power zero zero n h x y = refl
+leading-power zero (suc m) n h x y = let z : n / 10 ≡ 0 = omega arith in rw (eq-eqb (n / 10) 0 z)
+leading-power (suc k) zero n h x y = absurd (omega arith)
+leading-power (suc k) (suc m) n h x y =
+    let p : 10 ^ suc k ≡ 10 ^ k * 10 = pow-suc 10 k in
+    let one : 1 ≤ 10 ^ k = one-le-pow k 10 (omega arith) in
+    rw (ne_eqb (n / 10) 0 (λ e. omega arith)) (ap suc (leading-power k m (n / 10) (omega arith) (omega arith) (omega arith)))
+
+pub width-power : (k n : ℕ) → k < 20 → 10 ^ k ≤ n → n < 10 * 10 ^ k → width n ≡ k + 1
+unfolding width
+width-power k n h x y = omega (arith, leading-power k 19 n (omega arith) x y)
+
+pub width-zero : width 0 ≡ 1
+unfolding width leading
+width-zero = refl
 
 leading-most : (k rest : ℕ) → leading k rest ≤ k
 unfolding leading

@@ -8,14 +8,10 @@ ghost use Rattle.text.specs.Decimal as definition;
 pub fn width(n: u64) -> usize
     ensures { result ≡ definition.width n }
 {
-    let mut rest = n / 10;
-    for count in 1..20 {
-        if rest == 0 {
-            return count;
-        }
-        rest /= 10;
+    match n.checked_ilog10() {
+        Some(power) => power as usize + 1,
+        None => 1,
     }
-    20
 }
 
 // The digits of a number, at a place. Where they do not fit, the output is left as it was.

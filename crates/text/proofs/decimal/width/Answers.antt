@@ -1,18 +1,11 @@
--- `text::decimal::width` meets its contract: the digits before the last are counted one by one.
-use mathlib.Core.Path.{sym, ◌∙◌}
-use Prim.Native.Nat.{◌-◌}
-use native.Mathlib.Omega.{arith}
-use Rattle.text.proofs.DecimalLaws.{width-start, leading-none, leading-more, leading_end}
+-- `text::decimal::width` meets its contract: the greatest power of ten that is not above the number counts the digits before the last.
+use mathlib.Core.Path.{ap, sym, ◌∙◌}
+use Rattle.text.specs.Decimal.{width}
+use Rattle.text.proofs.DecimalLaws.{width-power, width-zero}
 use Rattle.text.proofs.decimal.width.Goals as goal
 
-pub loop-count-init : goal.loop-count-init
-loop-count-init c = width-start c.args.n
+pub returns-in-Some : goal.returns-in-Some
+returns-in-Some c = let k = c.in-Some.ensures in sym (width-power c.in-Some.power c.args.n k.bound k.power_le k.next_power_gt)
 
-pub returns-then-rest-eq0 : goal.returns-then-rest-eq0
-returns-then-rest-eq0 c = let l = c.loop-count in omega (arith, l.invariant, leading-none (20 - l.count) l.rest (omega arith))
-
-pub loop-count-preserved : goal.loop-count-preserved
-loop-count-preserved c = let l = c.loop-count in sym (leading-more l.count l.rest (omega arith) (λ e. omega arith)) ∙ l.invariant
-
-pub returns : goal.returns
-returns c = let l = c.loop-count in omega (arith, l.invariant, leading_end l.count l.rest (omega arith))
+pub returns-in-None : goal.returns-in-None
+returns-in-None c = sym (ap width c.in-None.ensures.none ∙ width-zero)
