@@ -1,9 +1,9 @@
 -- Laws of the load: commands that may be performed, and the load with a sound map.
-use Rattle.std.specs.Prelude.{◌≡◌, true, List, ℕ, ◌%◌, length}
+use Rattle.std.specs.Prelude.{◌≡◌, true, List, ℕ, length}
 use Rattle.memory_map.specs.declared.map.Map.{Map}
 use Rattle.memory_map.specs.Map.{sound}
 use Rattle.memory_map.specs.Lookup.{Lookup, lookup}
-use Rattle.aplx_command.specs.Command.{Command, command_at}
+use Rattle.aplx_command.specs.Command.{command_at}
 use Rattle.aplx_look.specs.Walk.{goes, tests}
 use Rattle.aplx_look.specs.Look.{aplx_look}
 use Rattle.aplx_look.proofs.LookLaws.{goes-permitted, whole_words}

@@ -4,25 +4,15 @@ ghost use Rattle.outcome.specs.Outcome.{outcome_of};
 ghost use Rattle.aplx.specs.Load.{aplx_load};
 
 use memory_map::map::Map;
-use outcome::answer::Answer;
+use outcome::answer::Load;
+use outcome::refusal::Refusal;
 
 // Loads the image whose header is at an address, up to the first run or other stop. A refused load changes no byte.
-pub fn load(map: Map, memory: &mut [u8], header: u32) -> Answer
+#[tactic(auto, unfolding(crate::specs::Load::aplx_load))]
+pub fn load(map: Map, memory: &mut [u8], header: u32) -> Result<Load, Refusal>
     ensures { record { outcome = outcome_of result; memory = memory.new } ≡ aplx_load map memory.old header }
 {
-    match aplx_look::look::look(map, memory, header) {
-        Answer::Refused(refusal) => Answer::Refused(refusal),
-        Answer::Accepted {
-            stop,
-            taken,
-            stored,
-        } => {
-            crate::perform::perform_all(map, memory, header, taken);
-            Answer::Accepted {
-                stop,
-                taken,
-                stored,
-            }
-        }
-    }
+    let load = aplx_look::look::look(map, memory, header)?;
+    crate::perform::perform_all(map, memory, header, load.taken);
+    Ok(load)
 }

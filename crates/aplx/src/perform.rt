@@ -13,6 +13,7 @@ use memory_map::map::{Map, place};
 use memory_region::region::Right;
 
 // One command whose ranges are permitted.
+#[tactic(auto, unfolding(crate::specs::Load::perform))]
 fn perform_command(map: Map, memory: &mut [u8], command: Command)
     requires { (sound map (length memory.old) ≡ true) × Performable (lookup map) (command_is command) }
     ensures { memory.new ≡ perform (lookup map) (command_is command) memory.old }
@@ -28,8 +29,7 @@ fn perform_command(map: Map, memory: &mut [u8], command: Command)
             let end = target + length as usize;
             word_blocks::fill::fill(&mut memory[target..end], word);
         }
-        Command::Exec { address: _ } => {}
-        Command::Other { command: _ } => {}
+        Command::Exec { .. } | Command::Other { .. } => {}
     }
 }
 
@@ -39,12 +39,10 @@ pub(crate) fn perform_all(map: Map, memory: &mut [u8], header: u32, count: usize
     ensures { memory.new ≡ perform_all (lookup map) (commands (lookup map) memory.old header count) memory.old }
 {
     let mut address = header;
-    let mut i: usize = 0;
-    while i < count {
+    for _ in 0..count {
         let entry = place(map.lookup(Right::Read, address, 16));
         let command = aplx_command::command::command_at(memory, entry, address);
         perform_command(map, memory, command);
         address += 16;
-        i += 1;
     }
 }

@@ -1,5 +1,5 @@
 -- What the laws of the load say of commands that may be performed.
-use Rattle.std.specs.Prelude.{◌≡◌, ℕ, ◌%◌}
+use Rattle.std.specs.Prelude.{◌≡◌, ◌%◌}
 use Rattle.memory_map.specs.Lookup.{Lookup}
 use Rattle.aplx_command.specs.Command.{Command}
 use Rattle.aplx_look.specs.Look.Header.{bytes_of}
