@@ -2,7 +2,7 @@
 ghost use Rattle.std.specs.Prelude.{◌≡◌, ◌+◌, ◌*◌, ◌≤◌, ℕ, List, Ok, length};
 ghost use Rattle.words.specs.Store.{store};
 ghost use Rattle.plan.specs.declared.read.Pieces.{Pieces as PiecesOf};
-ghost use Rattle.plan.specs.Plan.{Piece as PieceOf, Read, put_bytes, fill_bytes};
+ghost use Rattle.plan.specs.Plan.{Piece as PieceOf, Read, put_bytes};
 ghost use Rattle.plan.specs.Packed.{packed_as, output_after, outcome_of, pieces_in};
 ghost use Rattle.plan.specs.Code as reader;
 ghost use Rattle.plan.specs.Code.Packer.{Counted, ImageFits, outcome_is};
@@ -12,12 +12,10 @@ use outcome::refusal::{Cause, Refusal};
 
 // What differs between the packers: how the source is read, how long the image is, and how it is written.
 pub trait Packer {
-    // what the source is read as, the image of pieces, and its length by the number of pieces, the put bytes and the fill bytes
+    // what the source is read as, and the image of pieces
     ghost reads: { List ℕ → Read };
 
     ghost image: { List PieceOf → List ℕ };
-
-    ghost length_by: { ℕ → ℕ → ℕ → ℕ };
 
     fn read(source: &[u8]) -> Result<Pieces, Refusal>
         ensures value { reader.outcome_is result ≡ reader.outcome_of (reads source.now) }
@@ -25,14 +23,12 @@ pub trait Packer {
 
     fn size(pieces: Pieces) -> usize
         requires { (pieces.count ≤ 64) × (pieces.puts + pieces.fills ≤ 65536 * pieces.count) }
-        ensures { result ≡ length_by pieces.count pieces.puts pieces.fills };
+        ensures { (t : Read) → Counted t pieces.count pieces.puts pieces.fills → result ≡ length (image (pieces_in t)) };
 
     // The image, at the output's front.
     fn write(source: &[u8], pieces: Pieces, output: &mut [u8])
         requires { ImageFits image (reads source.now) pieces.count (length output.old) × (pieces.puts ≡ put_bytes (pieces_in (reads source.now))) }
         ensures { output.new ≡ store output.old 0 (image (pieces_in (reads source.now))) };
-
-    ghost sized: { (ps : List PieceOf) → length (image ps) ≡ length_by (length ps) (put_bytes ps) (fill_bytes ps) };
 }
 
 // Writes the image at the output's front. What is refused changes no byte of the output.
