@@ -39,7 +39,13 @@ pub fn missing<F: Flag>(flags: &[F]) -> usize
     ensures number { result ≡ missing_in (map F.reads flags.now) }
     ensures at_most { result ≤ length flags.now }
 {
-    flags.iter().filter(|flag| !flag.is_set()).count()
+    let mut number: usize = 0;
+    for flag in flags {
+        if !flag.is_set() {
+            number += 1;
+        }
+    }
+    number
 }
 
 // The place of the first of them.
