@@ -19,8 +19,8 @@ pub fn write_entry(piece: Piece, offset: u32, output: &mut [u8], at: usize)
     match piece {
         Piece::Put {
             address,
-            from: _,
             length,
+            ..
         } => {
             let size = (length % WORD_VALUES) as u32;
             words::four::put(output, at, 2, address, offset, size);
@@ -33,9 +33,7 @@ pub fn write_entry(piece: Piece, offset: u32, output: &mut [u8], at: usize)
             let size = (length % WORD_VALUES) as u32;
             words::four::put(output, at, 3, address, size, word);
         }
-        Piece::Run { address } => {
-            words::four::put(output, at, 4, address, 0, 0);
-        }
+        Piece::Run { address } => words::four::put(output, at, 4, address, 0, 0),
     }
 }
 
@@ -44,21 +42,8 @@ fn write_data(plan: &[u8], piece: Piece, output: &mut [u8], place: usize)
     requires { Writable 32 plan.now piece × (place + put_length piece ≤ length output.old) }
     ensures { output.new ≡ store output.old place (data_of (piece_is plan.now piece)) }
 {
-    match piece {
-        Piece::Put {
-            address: _,
-            from,
-            length,
-        } => {
-            let end = from + length;
-            words::put::bytes(output, place, &plan[from..end]);
-        }
-        Piece::Fill {
-            address: _,
-            length: _,
-            word: _,
-        } => {}
-        Piece::Run { address: _ } => {}
+    if let Piece::Put { from, length, .. } = piece {
+        words::put::bytes(output, place, &plan[from..from + length]);
     }
 }
 

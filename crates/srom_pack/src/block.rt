@@ -52,19 +52,12 @@ pub(crate) fn write_block(plan: &[u8], piece: Piece, output: &mut [u8], at: usiz
             address,
             from,
             length,
-        } => {
-            let end = from + length;
-            data_block(output, at, address, &plan[from..end]);
-        }
+        } => data_block(output, at, address, &plan[from..from + length]),
         Piece::Fill {
             address,
             length,
             word,
-        } => {
-            fill_block(output, at, address, length, word);
-        }
-        Piece::Run { address } => {
-            put_header(output, at, 0, address);
-        }
+        } => fill_block(output, at, address, length, word),
+        Piece::Run { address } => put_header(output, at, 0, address),
     }
 }

@@ -1,10 +1,10 @@
 -- What the code of a packer, and of the reader of images, asks and answers, in the terms of the definitions.
-use Rattle.std.specs.Prelude.{◌≡◌, List, ℕ, ◌+◌, ◌%◌, ◌≤◌, length}
+use Rattle.std.specs.Prelude.{◌≡◌, List, ℕ, ◌+◌, ◌*◌, ◌%◌, ◌≤◌, length, Result, Ok, Err}
+use Rattle.outcome.specs.declared.refusal.Refusal.{Refusal}
+use Rattle.outcome.specs.Refusal.{number_of}
 use Rattle.plan.specs.declared.piece.Piece as CodePiece
 use Rattle.plan.specs.declared.piece.Piece.TheVariants.{Put, Fill, Run}
-use Rattle.plan.specs.declared.packed.Answer as CodeAnswer
-use Rattle.plan.specs.declared.packed.Answer.TheVariants as answer
-use Rattle.plan.specs.Plan.{Piece, Read, pieces}
+use Rattle.plan.specs.Plan.{Piece, Read, pieces, put_bytes, fill_bytes}
 use Rattle.plan.specs.Packed.{pieces_in, Outcome, refusal, sized}
 
 -- a piece with its data in s that can be written to a medium with this unit
@@ -19,6 +19,15 @@ pub record ReadAs (t : Read) (count : ℕ) : Type 0 where
   pub counts : count ≡ length (pieces_in t)
   pub few : count ≤ 64
 
+-- what a reader gave is n pieces, with p put bytes and f fill bytes
+pub record Counted (t : Read) (n p f : ℕ) : Type 0 where
+  pub accepted : t ≡ pieces (pieces_in t)
+  pub count : n ≡ length (pieces_in t)
+  pub puts : p ≡ put_bytes (pieces_in t)
+  pub fills : f ≡ fill_bytes (pieces_in t)
+  pub few : n ≤ 64
+  pub most : p + f ≤ 65536 * n
+
 -- what a reader gave is so many pieces, and n bytes hold the image of them
 pub record ImageFits (image : List Piece → List ℕ) (t : Read) (count n : ℕ) : Type 0 where
   pub accepted : t ≡ pieces (pieces_in t)
@@ -26,6 +35,6 @@ pub record ImageFits (image : List Piece → List ℕ) (t : Read) (count n : ℕ
   pub few : count ≤ 64
   pub fits : length (image (pieces_in t)) ≤ n
 
-abbrev pub outcome_is : CodeAnswer.Answer → Outcome
-outcome_is (answer.Refused r) = refusal r.number r.place
-outcome_is (answer.Packed n) = sized n
+abbrev pub outcome_is : Result ℕ Refusal → Outcome
+outcome_is (Err r) = refusal (number_of r.cause) r.place
+outcome_is (Ok n) = sized n

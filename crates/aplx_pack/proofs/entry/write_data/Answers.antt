@@ -1,10 +1,14 @@
 -- `aplx_pack::entry::write_data` meets its contract: a put has its part of the plan, and another piece no data.
-use mathlib.Core.Path.{◌≡◌, sym, ◌∙◌}
-use Prim.Native.Nat.{◌+◌, ◌-◌, ◌≤◌}
+use mathlib.Core.Path.{◌≡◌, refl, sym, ◌∙◌}
+use Prim.Native.Nat.{ℕ, ◌+◌, ◌-◌, ◌≤◌}
 use native.Mathlib.Omega.{arith}
 use lib.ListN.{length, take, drop}
 use Rattle.words.proofs.StoreLaws.{store-fits, store-nil}
-use Rattle.plan.specs.declared.piece.Piece.TheVariants.{Put}
+use Rattle.plan.specs.declared.piece.Piece.TheVariants.{Put, Fill, Run}
+use Rattle.plan.specs.declared.piece.Piece.{Piece}
+use Rattle.words.specs.Store.{store}
+use Rattle.plan.specs.Plan.{data_of}
+use Rattle.plan.specs.Code.{piece_is}
 use Rattle.plan.specs.Code.Packer.{Writable}
 use Rattle.plan.proofs.PlanLaws.{data-length}
 use Rattle.aplx_pack.proofs.entry.write_data.Goals as goal
@@ -14,9 +18,6 @@ use Rattle.aplx_pack.proofs.entry.write_data.Goals.{In-Put}
 put-fits : (c : In-Put) → let x = c.args in
     Writable 32 x.plan.now (Put c.in-Put.address c.in-Put.from c.in-Put.length) × (x.place + c.in-Put.length ≤ length x.output.now)
 put-fits c = rw c.in-Put.is at c.requires
-
-pub overflow_add-end : goal.overflow_add-end
-overflow_add-end c = omega (arith, put-fits (goal.at.overflow_add-end c).In-Put)
 
 pub slice_bounds-bytes-end : goal.slice_bounds-bytes-end
 slice_bounds-bytes-end c = (put-fits (goal.at.slice_bounds-bytes-end c).In-Put).0.0
@@ -30,8 +31,10 @@ returns-in-Put c = let d = c in
     let l : length bytes ≡ c.in-Put.length = data-length x.plan.now c.in-Put.from c.in-Put.length h.0.0 in
     rw d.in-Put.is (rw e at c.bytes.ensures ∙ store-fits x.output.now x.place bytes (omega arith))
 
-pub returns-in-Fill : goal.returns-in-Fill
-returns-in-Fill c = rw c.in-Fill.is (sym (store-nil c.args.output.now c.args.place))
-
-pub returns-in-Run : goal.returns-in-Run
-returns-in-Run c = rw c.in-Run.is (sym (store-nil c.args.output.now c.args.place))
+pub returns-in_default : goal.returns-in_default
+returns-in_default c = go c.args.piece c.in_default.not-Put
+  where
+    go : (p : Piece) → ((a o n : ℕ) → p ≡ Put a o n → ⊥) → c.args.output.now ≡ store c.args.output.now c.args.place (data_of (piece_is c.args.plan.now p))
+    go (Put a o n) h = absurd (h a o n refl)
+    go (Fill a n w) h = sym (store-nil c.args.output.now c.args.place)
+    go (Run a) h = sym (store-nil c.args.output.now c.args.place)

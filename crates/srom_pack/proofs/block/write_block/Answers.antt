@@ -21,9 +21,6 @@ fill-fits : (c : In-Fill) → let x = c.args in
     Writable 4 x.plan.now (Fill c.in-Fill.address c.in-Fill.length c.in-Fill.word) × (x.at + (7 + c.in-Fill.length) ≤ length x.output.now)
 fill-fits c = let h = rw c.in-Fill.is at c.requires in (h.0, omega arith)
 
-pub overflow_add-end : goal.overflow_add-end
-overflow_add-end c = omega (arith, put-fits (goal.at.overflow_add-end c).In-Put)
-
 pub slice_bounds-data_block-end : goal.slice_bounds-data_block-end
 slice_bounds-data_block-end c = (put-fits (goal.at.slice_bounds-data_block-end c).In-Put).0.0
 

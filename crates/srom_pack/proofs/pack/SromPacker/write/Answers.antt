@@ -1,7 +1,7 @@
--- `srom_pack::pack::write_image` meets its contract: the loop's invariant: behind the pad stand the blocks before piece `i`, and the next place is that of piece `i`. The measure is the pieces left.
+-- `srom_pack::pack::SromPacker::write` meets its contract: the loop's invariant: behind the pad stand the blocks before piece `i`, and the next place is that of piece `i`. The measure is the pieces left.
 use mathlib.Core.Path.{◌≡◌, refl, sym, ◌∙◌}
 use mathlib.Core.List.{List}
-use Prim.Native.Nat.{◌+◌, ◌-◌, ◌≤◌, ◌<◌}
+use Prim.Native.Nat.{◌+◌, ◌≤◌, ◌<◌}
 use native.Mathlib.Omega.{arith}
 use lib.ListN.{length, set, length-set}
 use Rattle.plan.specs.Plan.{Piece}
@@ -11,8 +11,8 @@ use Rattle.plan.proofs.CodeLaws.{Found, found}
 use Rattle.srom_pack.specs.Image.{block_of, block_at, srom_image}
 use Rattle.srom_pack.proofs.ImageLaws.{first_block}
 use Rattle.srom_pack.proofs.Packing.{next_place, blocks-through, block_inside, Written, written_none, length-written, written-more, written_all}
-use Rattle.srom_pack.proofs.pack.write_image.Goals as goal
-use Rattle.srom_pack.proofs.pack.write_image.Goals.{After-accepted_at-piece}
+use Rattle.srom_pack.proofs.pack.SromPacker.write.Goals as goal
+use Rattle.srom_pack.proofs.pack.SromPacker.write.Goals.{After-accepted_at-piece}
 
 pub bounds-output-0 : goal.bounds-output-0
 bounds-output-0 c = omega (arith, block_inside (plan_pieces 4 c.args.plan.now) 0)
@@ -20,7 +20,7 @@ bounds-output-0 c = omega (arith, block_inside (plan_pieces 4 c.args.plan.now) 0
 pub loop-i-init : goal.loop-i-init
 loop-i-init c = let x = c.args in
     let ps = plan_pieces 4 x.plan.now in
-    (written_none ps (set x.output.now 0 0x55), (sym (first_block ps), (refl, omega arith)))
+    (written_none ps (set x.output.now 0 0x55), (sym (first_block ps), refl))
 
 -- the piece read is the plan's, and its block is inside the output
 module _ (c : After-accepted_at-piece) where
@@ -28,7 +28,7 @@ module _ (c : After-accepted_at-piece) where
   ps = plan_pieces 4 c.args.plan.now
 
   next-piece : Found 4 c.args.plan.now ps c.loop-i.i c.accepted_at-piece.result
-  next-piece = found 4 c.args.plan.now c.type_inv.plan c.requires.accepted c.loop-i.i (omega arith) _ c.accepted_at-piece.ensures
+  next-piece = found 4 c.args.plan.now c.type_inv.plan c.requires.0.accepted c.loop-i.i (omega arith) _ c.accepted_at-piece.ensures
 
   next-inside : block_at ps (c.loop-i.i + 1) < length c.args.output.now
   next-inside = omega (arith, block_inside ps (c.loop-i.i + 1))
@@ -58,17 +58,17 @@ loop-i-preserved c = let d = c in
     let block = block_of (piece_is x.plan.now d.accepted_at-piece.result) in
     let more : Written (ps (goal.at.loop-i-preserved c).After-accepted_at-piece) m w.new.output (i + 1) =
     rw w.ensures (written-more (ps (goal.at.loop-i-preserved c).After-accepted_at-piece) m i block fits c.loop-i.invariant.0 c.loop-i.invariant.1.0 (blocks-through n)) in
-    (more, (omega (arith, next_place n), (length-written (ps (goal.at.loop-i-preserved c).After-accepted_at-piece) m (i + 1) fits more, omega arith)))
+    (more, (omega (arith, next_place n), length-written (ps (goal.at.loop-i-preserved c).After-accepted_at-piece) m (i + 1) fits more))
 
 pub bounds-output-at : goal.bounds-output-at
 bounds-output-at c = let x = c.args in
     omega (arith, block_inside (plan_pieces 4 x.plan.now) c.loop-i.i, length-set x.output.now 0 0x55)
 
 pub shape_of-output : goal.shape_of-output
-shape_of-output c = length-set c.loop-i.output c.loop-i.at _ ∙ c.loop-i.invariant.1.1.0 ∙ length-set c.args.output.now 0 0x55
+shape_of-output c = length-set c.loop-i.output c.loop-i.at _ ∙ c.loop-i.invariant.1.1 ∙ length-set c.args.output.now 0 0x55
 
 pub returns : goal.returns
 returns c = let x = c.args in
     let ps = plan_pieces 4 x.plan.now in
     let e : c.loop-i.i ≡ length ps = omega arith in
-    rw (c.loop-i.invariant.1.0, e) (written_all ps x.output.now c.loop-i.output c.requires.fits (rw e at c.loop-i.invariant.0))
+    rw (c.loop-i.invariant.1.0, e) (written_all ps x.output.now c.loop-i.output c.requires.0.fits (rw e at c.loop-i.invariant.0))

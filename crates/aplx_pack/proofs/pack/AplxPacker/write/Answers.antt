@@ -1,4 +1,4 @@
--- `aplx_pack::pack::write_image` meets its contract: the loop's invariant: the entries and the data before piece `i` are written, and the next data's place is that of piece `i`. The measure is the pieces left.
+-- `aplx_pack::pack::AplxPacker::write` meets its contract: the loop's invariant: the entries and the data before piece `i` are written, and the next data's place is that of piece `i`. The measure is the pieces left.
 use mathlib.Core.Path.{◌≡◌, refl, sym, ◌∙◌}
 use mathlib.Core.List.{List}
 use Prim.Native.Nat.{◌+◌, ◌-◌, ◌*◌, ◌≤◌}
@@ -14,12 +14,12 @@ use Rattle.plan.proofs.CodeRows.{data_start, earlier-most, put-most, datas-throu
 use Rattle.aplx_pack.specs.Image.{entry_of}
 use Rattle.aplx_pack.proofs.ImageLaws.{length-entry_of}
 use Rattle.aplx_pack.proofs.Packing.{front, length_front, front-through, image-end, written_all}
-use Rattle.aplx_pack.proofs.pack.write_image.Goals as goal
-use Rattle.aplx_pack.proofs.pack.write_image.Goals.{After-accepted_at-piece}
+use Rattle.aplx_pack.proofs.pack.AplxPacker.write.Goals as goal
+use Rattle.aplx_pack.proofs.pack.AplxPacker.write.Goals.{After-accepted_at-piece}
 
 pub loop-i-init : goal.loop-i-init
 unfolding datas
-loop-i-init c = (simp store-nil, (omega (arith, c.requires.counts), (omega arith, (refl, omega arith))))
+loop-i-init c = (simp store-nil, (omega (arith, c.requires.0.counts), (omega arith, refl)))
 
 -- the piece read is the plan's
 module _ (c : After-accepted_at-piece) where
@@ -27,12 +27,12 @@ module _ (c : After-accepted_at-piece) where
   ps = plan_pieces 32 c.args.plan.now
 
   next-piece : Found 32 c.args.plan.now ps c.loop-i.i c.accepted_at-piece.result
-  next-piece = found 32 c.args.plan.now c.type_inv.plan c.requires.accepted c.loop-i.i (omega arith) _ c.accepted_at-piece.ensures
+  next-piece = found 32 c.args.plan.now c.type_inv.plan c.requires.0.accepted c.loop-i.i (omega arith) _ c.accepted_at-piece.ensures
 
 pub write_piece-requires : goal.write_piece-requires
 write_piece-requires c = let d = c in
     let n = next-piece (goal.at.write_piece-requires c).After-accepted_at-piece in
-    (n.writable, omega arith, omega arith, omega (arith, earlier-next n, earlier-most (ps (goal.at.write_piece-requires c).After-accepted_at-piece) (c.loop-i.i + 1), image-end (ps (goal.at.write_piece-requires c).After-accepted_at-piece), c.requires.fits))
+    (n.writable, omega arith, omega arith, omega (arith, earlier-next n, earlier-most (ps (goal.at.write_piece-requires c).After-accepted_at-piece) (c.loop-i.i + 1), image-end (ps (goal.at.write_piece-requires c).After-accepted_at-piece), c.requires.0.fits))
 
 pub overflow_add-place-in-loop-i : goal.overflow_add-place-in-loop-i
 overflow_add-place-in-loop-i c = omega (arith, put-most (next-piece (goal.at.overflow_add-place-in-loop-i c).After-accepted_at-piece), c.put_length-place.ensures)
@@ -43,7 +43,7 @@ loop-i-preserved c = let d = c in
     let x = c.args in
     let i = c.loop-i.i in
     let w = c.write_piece in
-    let fits : data_start (ps (goal.at.loop-i-preserved c).After-accepted_at-piece) + put_bytes (ps (goal.at.loop-i-preserved c).After-accepted_at-piece) ≤ length x.output.now = omega (arith, image-end (ps (goal.at.loop-i-preserved c).After-accepted_at-piece), c.requires.fits) in
+    let fits : data_start (ps (goal.at.loop-i-preserved c).After-accepted_at-piece) + put_bytes (ps (goal.at.loop-i-preserved c).After-accepted_at-piece) ≤ length x.output.now = omega (arith, image-end (ps (goal.at.loop-i-preserved c).After-accepted_at-piece), c.requires.0.fits) in
     let p = piece_is x.plan.now d.accepted_at-piece.result in
     let at = length_front (ps (goal.at.loop-i-preserved c).After-accepted_at-piece) i (omega arith) in
     let place = c.loop-i.invariant.1.0 in
@@ -51,14 +51,14 @@ loop-i-preserved c = let d = c in
     let more : Written (ps (goal.at.loop-i-preserved c).After-accepted_at-piece) (front (ps (goal.at.loop-i-preserved c).After-accepted_at-piece)) x.output.now w.new.output (i + 1) =
     rw w.ensures (written-more (ps (goal.at.loop-i-preserved c).After-accepted_at-piece) (front (ps (goal.at.loop-i-preserved c).After-accepted_at-piece)) x.output.now fits i c.loop-i.invariant.0 entry (data_of p) (sym at)
     (omega (arith, length-entry_of p (c.loop-i.place - 16 * i))) place (front-through n _ place) (datas-through n)) in
-    (more, (omega (arith, earlier-next n), (omega (arith, put-most n), (length-written (ps (goal.at.loop-i-preserved c).After-accepted_at-piece) (front (ps (goal.at.loop-i-preserved c).After-accepted_at-piece)) x.output.now fits (i + 1) more (omega (arith, length_front (ps (goal.at.loop-i-preserved c).After-accepted_at-piece) (i + 1) (omega arith))), omega arith))))
+    (more, (omega (arith, earlier-next n), (omega (arith, put-most n), length-written (ps (goal.at.loop-i-preserved c).After-accepted_at-piece) (front (ps (goal.at.loop-i-preserved c).After-accepted_at-piece)) x.output.now fits (i + 1) more (omega (arith, length_front (ps (goal.at.loop-i-preserved c).After-accepted_at-piece) (i + 1) (omega arith))))))
 
 pub shape_of-output : goal.shape_of-output
-shape_of-output c = c.put.auto.s ∙ c.loop-i.invariant.1.1.1.0
+shape_of-output c = c.put.auto.s ∙ c.loop-i.invariant.1.1.1
 
 pub returns : goal.returns
 returns c = let x = c.args in
     let ps = plan_pieces 32 x.plan.now in
     let e : c.loop-i.i ≡ length ps = omega arith in
-    let h : 16 * x.count + 16 ≤ length c.loop-i.output = omega (arith, image-end ps, c.requires.fits) in
-    rw (c.put.ensures, four-fits, c.requires.counts) (written_all ps x.output.now c.requires.fits c.loop-i.output (rw e at c.loop-i.invariant.0))
+    let h : 16 * x.pieces.count + 16 ≤ length c.loop-i.output = omega (arith, image-end ps, c.requires.0.fits) in
+    rw (c.put.ensures, four-fits, c.requires.0.counts) (written_all ps x.output.now c.requires.0.fits c.loop-i.output (rw e at c.loop-i.invariant.0))
