@@ -1,7 +1,7 @@
 -- Laws of tables: which map a table is, which table takes a region, and what is left of it.
-use Rattle.std.specs.Prelude.{◌≡◌, Bool, true, false, List, ltb, eqb, length}
+use Rattle.std.specs.Prelude.{◌≡◌, Bool, true, false, List, [], ◌∷◌, ◌++◌, ltb, eqb, length}
 use Rattle.std.proofs.Math.Path.{refl}
-use Rattle.std.proofs.Common.{sym, ◌∙◌}
+use Rattle.std.proofs.Common.{sym, ◌∙◌, ap}
 use Prim.Native.Nat.{ℕ, zero, suc, ◌+◌, ◌-◌, ◌*◌, ◌≤◌, ◌<◌}
 use native.Mathlib.Omega.{arith}
 use borrow.Author.Tests.{lt-ltb, le-ltb, eq-eqb, ne_eqb, eqb-true, eqb-false, ltb-true, ltb-false}
@@ -10,7 +10,7 @@ use Rattle.words.specs.Bytes.{little_endian_at}
 use Rattle.memory_region.specs.declared.region.Region.{Region}
 use Rattle.memory_map.specs.Map.{Addition, taken, refused, add, well_formed, sound}
 use Rattle.memory_map.proofs.MapAdded.{taken-room}
-use Rattle.map_table.specs.Table.{region_of, regions_in, rights_known, count_in, regular, map_of, no_map, table_of, addition, table_after}
+use Rattle.map_table.specs.Table.{region_of, region_in, regions_in, rights_known, count_in, regular, map_of, no_map, table_of, addition, table_after}
 
 -- ---- regular tables
 module _ (t : List ℕ) where
@@ -67,6 +67,15 @@ module _ (t : List ℕ) where
       to_both (ltb 7 (little_endian_at 4 t (p + 12))) refl (rights-unknown k (p + 16) i (omega arith) (rw z at w))
 
 -- ---- the map of a table
+-- one region more, behind those before it
+pub regions-more : (k : ℕ) (t : List ℕ) (p : ℕ) → regions_in (k + 1) t p ≡ regions_in k t p ++ region_in t (p + 16 * k) ∷ []
+unfolding regions_in
+regions-more zero t p = let z : p + 16 * 0 ≡ p = omega arith in rw z refl
+regions-more (suc k) t p =
+    let z : p + 16 + 16 * k ≡ p + 16 * suc k = omega arith in
+    let y : suc k + 1 ≡ suc (k + 1) = omega arith in
+    rw y (ap (λ (gs : List Region). region_in t p ∷ gs) (rw z at (regions-more k t (p + 16))))
+
 pub map-of-table : (t : List ℕ) → regular t ≡ true → map_of t ≡ record { regions = regions_in 8 t 4; count = count_in t }
 unfolding map_of
 map-of-table t h = simp h

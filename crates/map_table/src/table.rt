@@ -5,10 +5,9 @@ ghost use Rattle.words.specs.Store.{store_if_fits};
 ghost use Rattle.memory_map.specs.Map.{verdict_of};
 ghost use Rattle.map_table.specs.Table.{rights_of, region_of, region_in, rights_known, regular, map_of, bit_of, rights_number, region_bytes, table_of, addition, table_after};
 
-use memory_map::map::{Map, Verdict};
-use memory_map::refusal::MAP_NOT_SOUND;
+use memory_map::map::Map;
 use memory_region::region::{Region, Rights};
-use outcome::answer::Refusal;
+use outcome::refusal::{Cause, Refusal};
 use words::read::le_word_at;
 
 // The length of a table, and the most regions in it.
@@ -55,12 +54,10 @@ fn rights_known(table: &[u8], count: usize) -> bool
     requires { count ≤ 8 }
     ensures { result ≡ rights_known count table.now 4 }
 {
-    let mut i: usize = 0;
-    while i < count {
+    for i in 0..count {
         if le_word_at(table, 16 + 16 * i) > ALL_RIGHTS {
             return false;
         }
-        i += 1;
     }
     true
 }
@@ -69,11 +66,8 @@ fn rights_known(table: &[u8], count: usize) -> bool
 fn regular(table: &[u8]) -> bool
     ensures { result ≡ regular table.now }
 {
-    if table.len() != TABLE {
-        return false;
-    }
     let count = le_word_at(table, 0) as usize;
-    if count > MOST_REGIONS {
+    if table.len() != TABLE || count > MOST_REGIONS {
         return false;
     }
     rights_known(table, count)
@@ -83,24 +77,16 @@ fn regular(table: &[u8]) -> bool
 pub fn map_of(table: &[u8]) -> Map
     ensures { result ≡ map_of table.now }
 {
+    let mut map = Map::empty();
     if !regular(table) {
-        let mut none = Map::empty();
-        none.count = MOST_REGIONS + 1;
-        return none;
+        map.count = MOST_REGIONS + 1;
+        return map;
     }
-    let a = region_in(table, 4);
-    let b = region_in(table, 20);
-    let c = region_in(table, 36);
-    let d = region_in(table, 52);
-    let e = region_in(table, 68);
-    let f = region_in(table, 84);
-    let g = region_in(table, 100);
-    let h = region_in(table, 116);
-    let count = le_word_at(table, 0) as usize;
-    Map {
-        regions: [a, b, c, d, e, f, g, h],
-        count,
+    map.count = le_word_at(table, 0) as usize;
+    for (i, region) in map.regions.iter_mut().enumerate() {
+        *region = region_in(table, 4 + 16 * i);
     }
+    map
 }
 
 fn bit_of(given: bool, bit: u32) -> u32
@@ -129,34 +115,21 @@ fn put_table(table: &mut [u8], map: Map)
     ensures { table.new ≡ table_of map }
 {
     words::put::le_word(table, 0, map.count as u32);
-    let mut i: usize = 0;
-    while i < MOST_REGIONS {
-        let region = map.regions[i];
-        put_region(table, 4 + 16 * i, region);
-        i += 1;
+    for (i, region) in map.regions.iter().enumerate() {
+        put_region(table, 4 + 16 * i, *region);
     }
 }
 
 // Adds a region, and writes the table of the map that has it. A refused addition leaves the table as it was.
-pub fn add(table: &mut [u8], base: u32, length: u32, place: u32, rights: u32) -> Verdict
+pub fn add(table: &mut [u8], base: u32, length: u32, place: u32, rights: u32) -> Result<(), Refusal>
     ensures result_value { verdict_of result ≡ (addition table.old base length place rights).verdict }
     ensures table_after { table.new ≡ table_after table.old (addition table.old base length place rights) }
 {
     if rights > ALL_RIGHTS {
-        return Verdict::Refused(Refusal {
-            number: MAP_NOT_SOUND,
-            place: 0,
-        });
+        return Err(Cause::MapNotSound.at(0));
     }
-    let map = map_of(table);
-    let region = region_of(base, length, place, rights);
-    let addition = map.add(region);
-    let verdict = addition.verdict;
-    match verdict {
-        Verdict::Taken => {
-            put_table(table, addition.map);
-            Verdict::Taken
-        }
-        Verdict::Refused(refusal) => Verdict::Refused(refusal),
-    }
+    let addition = map_of(table).add(region_of(base, length, place, rights));
+    addition.verdict?;
+    put_table(table, addition.map);
+    Ok(())
 }

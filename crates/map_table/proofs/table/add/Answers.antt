@@ -2,7 +2,9 @@
 -- a refused one stays.
 use mathlib.Core.Path.{◌≡◌, ap, sym, ◌∙◌}
 use native.Mathlib.Omega.{arith}
-use Rattle.memory_map.specs.declared.map.Verdict.{Verdict}
+use Rattle.std.specs.Prelude.{Result}
+use Rattle.std.proofs.lemmas.Result.{err_from_is_err_and}
+use Rattle.outcome.specs.declared.refusal.Refusal.{Refusal}
 use Rattle.memory_map.specs.Map.{Addition, add, verdict_of, addition_of}
 use Rattle.memory_map.proofs.MapAdded.{taken-few}
 use Rattle.map_table.specs.Table.{region_of, map_of, table_of, addition}
@@ -13,7 +15,7 @@ use Rattle.map_table.proofs.table.add.Goals.{After-add-addition}
 pub returns-then-rights-gt-ALL_RIGHTS : goal.returns-then-rights-gt-ALL_RIGHTS
 returns-then-rights-gt-ALL_RIGHTS c = let x = c.args in
     let e = over-addition x.table.now x.base x.length x.place x.rights (omega (arith, c.if-rights-gt-ALL_RIGHTS.true)) in
-    record { result_value = ap (λ (a : Addition). a.verdict) (sym e); table_after = sym (after-refused _ _ 1 0 (ap (λ (a : Addition). a.verdict) e)) }
+    record { result_value = rw c.at.ensures (ap (λ (a : Addition). a.verdict) (sym e)); table_after = sym (after-refused _ _ 1 0 (ap (λ (a : Addition). a.verdict) e)) }
 
 -- the addition of the definitions, and its verdict by the code's
 module _ (c : After-add-addition) where
@@ -33,24 +35,26 @@ module _ (c : After-add-addition) where
       known-addition x.table.now x.base x.length x.place x.rights (omega (arith, c.if-rights-gt-ALL_RIGHTS.false))
 
   is-told : addition_of c.add-addition.result ≡ told
-  is-told = rw (c.map_of-map.ensures, c.region_of-region.ensures) at c.add-addition.ensures ∙ sym is-add
+  is-told = rw (c.map_of.ensures, c.region_of.ensures) at c.add-addition.ensures ∙ sym is-add
 
-  verdict-told : {v : Verdict} → c.add-addition.result.verdict ≡ v → told.verdict ≡ verdict_of v
+  verdict-told : {v : Result (Unit {0}) Refusal} → c.add-addition.result.verdict ≡ v → told.verdict ≡ verdict_of v
   verdict-told e = sym (ap (λ (a : Addition). a.verdict) is-told) ∙ ap verdict_of e
 
 pub put_table-requires : goal.put_table-requires
-put_table-requires c = let d = c in
-    let x = d.args in
+put_table-requires c = let x = c.args in
     let g = region_of x.base x.length x.place x.rights in
-    let v = sym (ap (λ (a : Addition). a.verdict) (is-add (goal.at.put_table-requires c).After-add-addition)) ∙ verdict-told (goal.at.put_table-requires c).After-add-addition c.in-Taken.is in
-    let count = ap (λ (a : Addition). a.map.count) (is-told (goal.at.put_table-requires c).After-add-addition ∙ is-add (goal.at.put_table-requires c).After-add-addition) in
+    let start = (goal.at.put_table-requires c).After-add-addition in
+    let v = sym (ap (λ (a : Addition). a.verdict) (is-add start)) ∙ verdict-told start c.in_ok-addition.was in
+    let count = ap (λ (a : Addition). a.map.count) (is-told start ∙ is-add start) in
     (regular-whole x.table.now (taken-regular x.table.now g v), omega (arith, taken-few (map_of x.table.now) g v))
 
-pub returns-in-Taken : goal.returns-in-Taken
-returns-in-Taken c = let d = c in
-    let v = verdict-told (goal.at.returns-in-Taken c).After-add-addition c.in-Taken.is in record { result_value = sym v; table_after = c.put_table.ensures ∙ ap (λ (a : Addition). table_of a.map) (is-told (goal.at.returns-in-Taken c).After-add-addition) ∙ sym (after-taken _ (told (goal.at.returns-in-Taken c).After-add-addition) v) }
+pub returns-in_err-addition : goal.returns-in_err-addition
+returns-in_err-addition c = let start = (goal.at.returns-in_err-addition c).After-add-addition in
+    let v = verdict-told start c.in_err-addition.was in
+    let p = err_from_is_err_and c.from_residual.result c.from_residual.ensures.1 in
+    record { result_value = rw (p.1, p.2) (sym v); table_after = sym (after-refused _ (told start) _ _ v) }
 
-pub returns-in-Refused : goal.returns-in-Refused
-returns-in-Refused c = let d = c in
-    let v = verdict-told (goal.at.returns-in-Refused c).After-add-addition c.in-Refused.is in
-    record { result_value = sym v; table_after = sym (after-refused _ (told (goal.at.returns-in-Refused c).After-add-addition) _ _ v) }
+pub returns : goal.returns
+returns c = let start = (goal.at.returns c).After-add-addition in
+    let v = verdict-told start c.in_ok-addition.was in
+    record { result_value = sym v; table_after = c.put_table.ensures ∙ ap (λ (a : Addition). table_of a.map) (is-told start) ∙ sym (after-taken _ (told start) v) }
