@@ -2,6 +2,7 @@
 pub mod Segment
 pub mod Block
 pub mod Collected
+pub mod Pairs
 use Rattle.std.specs.Prelude.{◌≡◌, Bool, List, ℕ, ◌+◌, ◌*◌, ◌≤◌, ◌<◌, eqb, length}
 use Rattle.plan.specs.Plan.{Read, refused, pieces}
 use Rattle.plan.specs.Packed.{plan_pieces, Accepted}

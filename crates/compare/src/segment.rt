@@ -143,17 +143,10 @@ pub(crate) fn segment_at(plan: &[u8], count: u32, at: u64, limit: u64) -> Segmen
 }
 
 // Byte i of a word that is repeated.
-pub(crate) fn fill_byte(word: u32, i: u64) -> u32
+pub(crate) fn fill_byte(word: u32, i: u64) -> u8
     ensures { result ≡ get_or (little_endian 4 word) (i % 4) 0 }
 {
-    let bytes = [
-        word % 256,
-        word / 256 % 256,
-        word / 65536 % 256,
-        word / 16777216 % 256,
-    ];
-    let k = (i % 4) as usize;
-    bytes[k]
+    word.to_le_bytes()[(i % 4) as usize]
 }
 
 // The last byte at an address that the source reaches.
@@ -163,18 +156,10 @@ pub(crate) fn byte_at(plan: &[u8], source: Source, at: u64) -> u32
 {
     match source {
         Source::Nothing => NOT_STORED,
-        Source::Put {
-            address,
-            from,
-            length: _,
-        } => {
+        Source::Put { address, from, .. } => {
             let i = from + (at - address as u64) as usize;
             plan[i] as u32
         }
-        Source::Fill {
-            address,
-            length: _,
-            word,
-        } => fill_byte(word, at - address as u64),
+        Source::Fill { address, word, .. } => fill_byte(word, at - address as u64) as u32,
     }
 }
