@@ -1,6 +1,6 @@
 -- A value of the code can be read back from what it says. So two that say the same are the same, and an equation of what an answer says
 -- decides it.
-use Rattle.std.specs.Prelude.{◌≡◌, refl}
+use Rattle.std.specs.Prelude.{◌≡◌, refl, ℕ, Option, None, Some}
 use Rattle.std.proofs.Common.{ap}
 use Rattle.outcome.proofs.OutcomeInjective.{back-injective, refusal_back}
 use Rattle.compare.specs.declared.compare.Which as CodeWhich
@@ -9,8 +9,6 @@ use Rattle.compare.specs.declared.compare.Compared as CodeCompared
 use Rattle.compare.specs.declared.compare.Compared.TheVariants as answer
 use Rattle.compare.specs.declared.reading.Reading as CodeReading
 use Rattle.compare.specs.declared.reading.Reading.TheVariants as reading
-use Rattle.compare.specs.declared.run.Run as CodeRun
-use Rattle.compare.specs.declared.run.Run.TheVariants as runs
 use Rattle.compare.specs.Reading.{Run, none, at}
 use Rattle.compare.specs.Compare.{Which, neither, old_plan, new_plan}
 use Rattle.compare.specs.Code.{Outcome, refusal, found, which_is, outcome_is, Reading, fails, reads, reading_is, run_is}
@@ -54,13 +52,13 @@ pub reading_is-injective : (x y : CodeReading.Reading) → reading_is x ≡ read
 reading_is-injective = back-injective reading_is reading_back reading-back
 
 -- a run
-abbrev run_back : Run → CodeRun.Run
-run_back none = runs.None
-run_back (at a) = runs.At a
+abbrev run_back : Run → Option ℕ
+run_back none = None
+run_back (at a) = Some a
 
-run-back : (x : CodeRun.Run) → run_back (run_is x) ≡ x
-run-back runs.None = refl
-run-back (runs.At a) = refl
+run-back : (x : Option ℕ) → run_back (run_is x) ≡ x
+run-back None = refl
+run-back (Some a) = refl
 
-pub run_is-injective : (x y : CodeRun.Run) → run_is x ≡ run_is y → x ≡ y
+pub run_is-injective : (x y : Option ℕ) → run_is x ≡ run_is y → x ≡ y
 run_is-injective = back-injective run_is run_back run-back

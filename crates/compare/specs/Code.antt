@@ -2,8 +2,9 @@
 pub mod Segment
 pub mod Block
 pub mod Collected
+pub mod Listed
 pub mod Pairs
-use Rattle.std.specs.Prelude.{◌≡◌, Bool, List, ℕ, ◌+◌, ◌*◌, ◌≤◌, ◌<◌, eqb, length}
+use Rattle.std.specs.Prelude.{◌≡◌, Bool, List, ℕ, ◌+◌, ◌*◌, ◌≤◌, ◌<◌, eqb, length, Option, None, Some}
 use Rattle.plan.specs.Plan.{Read, refused, pieces}
 use Rattle.plan.specs.Packed.{plan_pieces, Accepted}
 use Rattle.plan.specs.Meaning.{stretch}
@@ -13,8 +14,6 @@ use Rattle.compare.specs.declared.compare.Compared as CodeCompared
 use Rattle.compare.specs.declared.compare.Compared.TheVariants as answer
 use Rattle.compare.specs.declared.reading.Reading as CodeReading
 use Rattle.compare.specs.declared.reading.Reading.TheVariants as reading
-use Rattle.compare.specs.declared.run.Run as CodeRun
-use Rattle.compare.specs.declared.run.Run.TheVariants as runs
 use Rattle.compare.specs.LastByte.{last_byte}
 use Rattle.compare.specs.Reading.{read_compared, Run, none, at}
 use Rattle.compare.specs.Compare.{Which, neither, old_plan, new_plan, Compared, refuses, finds, most_stretches}
@@ -56,9 +55,9 @@ reading_is (reading.Refused r) = fails r.number r.place
 reading_is (reading.Pieces k) = reads k
 
 -- ---- runs
-abbrev pub run_is : CodeRun.Run → Run
-run_is runs.None = none
-run_is (runs.At a) = at a
+abbrev pub run_is : Option ℕ → Run
+run_is None = none
+run_is (Some a) = at a
 
 -- ---- plans that are compared
 -- a plan of n pieces that can be
@@ -70,10 +69,6 @@ pub record Comparable (s : List ℕ) (n : ℕ) : Type 0 where
 -- an accepted plan, and the number of pieces of its stretch from index 0
 abbrev pub Whole : List ℕ → ℕ → Type 0
 Whole s n = Accepted 1 s × (n ≡ length (stretch (plan_pieces 1 s)))
-
--- the words of a list that holds one stretch more than an answer has at most
-abbrev pub list_words : ℕ
-list_words = 4 * (most_stretches + 1)
 
 -- what was read of an accepted plan
 abbrev pub read_as : List ℕ → Read

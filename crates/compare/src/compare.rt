@@ -2,14 +2,14 @@
 ghost use Rattle.std.specs.Prelude.{◌≡◌, ◌*◌, ◌≤◌, length};
 ghost use Rattle.compare.specs.Reading.{addresses, read_compared};
 ghost use Rattle.compare.specs.Compare.{most_stretches, stretch_size, compared_below, compared, output_after};
-ghost use Rattle.compare.specs.Code.{list_words, Whole, Comparable, read_as, image_of, outcome_of, outcome_is};
+ghost use Rattle.compare.specs.Code.{Whole, Comparable, read_as, image_of, outcome_of, outcome_is};
 ghost use Rattle.compare.specs.Code.Block.{Sides};
 ghost use Rattle.compare.specs.Code.Collected.{Collected};
 
 use crate::block::block_at;
-use crate::listing::{WORDS, add_block, put_stretches};
+use crate::listing::Listing;
 use crate::reading::{ADDRESSES, Reading, read};
-use crate::run::{same_run, stretch_of};
+use crate::run::stretch_of;
 use crate::sides::{Sources, sources_at};
 use outcome::answer::{OUTPUT_TOO_SMALL, Refusal};
 
@@ -26,7 +26,7 @@ pub const NOT_STORED: u32 = 256;
 const TOO_MANY_STRETCHES: u32 = 18;
 
 // The plan that a refusal is about.
-#[derive(Clone, Copy)]
+#[derive(Clone, Copy, Debug, PartialEq, Eq)]
 pub enum Which {
     Neither,
     Old,
@@ -40,48 +40,36 @@ pub enum Compared {
     Refused { which: Which, refusal: Refusal },
 }
 
-// The list with what differs from an address on, up to the end of the sources; answers how many stretches there are.
-fn collect_blocks(
-    old: &[u8],
-    new: &[u8],
-    sources: Sources,
-    first: u64,
-    words: &mut [u32],
-    listed: usize,
-) -> usize
-    requires { Sides old.now new.now first sources × Collected words.old listed (image_of old.now) (image_of new.now) first }
-    ensures { Collected words.new result (image_of old.now) (image_of new.now) sources.end }
+// Lists what differs from an address on, up to the end of the sources.
+fn collect_blocks(old: &[u8], new: &[u8], sources: Sources, first: u64, listing: &mut Listing)
+    requires { Sides old.now new.now first sources × Collected listing.old (image_of old.now) (image_of new.now) first }
+    ensures { Collected listing.new (image_of old.now) (image_of new.now) sources.end }
 {
-    let end = sources.end;
-    let mut count = listed;
     let mut at = first;
-    while at < end {
-        if count > MOST_STRETCHES {
-            return count;
+    while at < sources.end {
+        if listing.count > MOST_STRETCHES {
+            return;
         }
         let block = block_at(old, new, sources, at);
-        count = add_block(words, count, at, block);
+        listing.add_block(at, block);
         at = block.end;
     }
-    count
 }
 
 // The stretches in which two plans differ; where they are too many, the first of them, and one more than there may be.
-fn collect(old: &[u8], new: &[u8], old_count: u32, new_count: u32, words: &mut [u32]) -> usize
-    requires { Whole old.now old_count × Whole new.now new_count × (length words.old ≡ list_words) }
-    ensures { Collected words.new result (image_of old.now) (image_of new.now) addresses }
+fn collect(old: &[u8], new: &[u8], old_count: u32, new_count: u32, listing: &mut Listing)
+    requires { Whole old.now old_count × Whole new.now new_count × (listing.old.count ≡ 0) }
+    ensures { Collected listing.new (image_of old.now) (image_of new.now) addresses }
 {
-    let mut count: usize = 0;
     let mut at: u64 = 0;
     while at < ADDRESSES {
-        if count > MOST_STRETCHES {
-            return count;
+        if listing.count > MOST_STRETCHES {
+            return;
         }
         let sources = sources_at(old, new, old_count, new_count, at);
-        count = collect_blocks(old, new, sources, at, words, count);
+        collect_blocks(old, new, sources, at, listing);
         at = sources.end;
     }
-    count
 }
 
 // Two plans that were read, of so many pieces.
@@ -98,9 +86,9 @@ fn compare_pieces(
 {
     let old_stretch = stretch_of(old, old_count);
     let new_stretch = stretch_of(new, new_count);
-    let mut words = [0u32; WORDS];
-    let count = collect(old, new, old_stretch.count, new_stretch.count, &mut words);
-    if count > MOST_STRETCHES {
+    let mut listing = Listing::new();
+    collect(old, new, old_stretch.count, new_stretch.count, &mut listing);
+    if listing.count > MOST_STRETCHES {
         return Compared::Refused {
             which: Which::Neither,
             refusal: Refusal {
@@ -109,12 +97,10 @@ fn compare_pieces(
             },
         };
     }
-    put_stretches(output, &words, count);
-    let old_run = old_stretch.run;
-    let new_run = new_stretch.run;
+    listing.put(output);
     Compared::Found {
-        count,
-        same_run: same_run(old_run, new_run),
+        count: listing.count,
+        same_run: old_stretch.run == new_stretch.run,
     }
 }
 

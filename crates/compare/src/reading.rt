@@ -38,15 +38,15 @@ fn judge_last(piece: Piece) -> Judged
     match piece {
         Piece::Put {
             address,
-            from: _,
             length,
-        } => judge_end(address, length, piece),
-        Piece::Fill {
+            ..
+        }
+        | Piece::Fill {
             address,
             length,
-            word: _,
+            ..
         } => judge_end(address, length, piece),
-        Piece::Run { address: _ } => Judged::Good(piece),
+        Piece::Run { .. } => Judged::Good(piece),
     }
 }
 
@@ -65,12 +65,9 @@ fn read_pieces(plan: &[u8], count: u32) -> Reading
     requires { count ≤ 64 }
     ensures { reading_is result ≡ reading_of (compared_pieces plan.now count 0) }
 {
-    let mut i: u32 = 0;
-    while i < count {
+    for i in 0..count {
         match compared_at(plan, i) {
-            Judged::Good(_) => {
-                i += 1;
-            }
+            Judged::Good(_) => {}
             Judged::Bad(number) => {
                 return Reading::Refused(Refusal {
                     number,

@@ -1,5 +1,5 @@
 -- `compare::pairs::alike` meets its contract: the pairs before `k` are as asked.
-use Rattle.std.proofs.Common.{◌≡◌, arith}
+use Rattle.std.proofs.Common.{arith}
 use Rattle.compare.specs.Code.Pairs.{Pair}
 use Rattle.compare.proofs.CodeLaws.{beq_same, more}
 use Rattle.compare.proofs.pairs.alike.Goals as goal
