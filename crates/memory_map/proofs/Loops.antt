@@ -1,104 +1,89 @@
--- Steps of the loops over the regions in use.
-use mathlib.Core.Path.{◌≡◌}
-use mathlib.Core.Bool.{Bool, true, false, ◌&&◌}
-use mathlib.Core.List.{[], ◌∷◌}
-use Prim.Native.Nat.{ℕ, ◌+◌, ◌≤◌, ◌<◌}
-use native.Mathlib.Numerals.{add-one}
-use native.Mathlib.Omega.{arith}
-use lib.ListN.{length, take, drop, length-take, drop_of_length-le}
-use lib.Seq.{drop-cons, get_or-take}
+-- Steps of the loops over regions: the region at an index, and those from the index on.
+use Rattle.std.specs.Prelude.{◌≡◌, refl, Bool, true, false, ◌&&◌, List, [], ◌∷◌, ℕ, ◌+◌, ◌≤◌, ◌<◌, length, drop, get_or}
+use Rattle.std.proofs.Common.{add-one, drop-cons, sym, ◌∙◌, ap, length-drop, take, ◌-◌}
+use Rattle.std.proofs.Math.Seq.{take-length}
+use Rattle.std.proofs.Math.ListN.{drop_of_length-le}
 use Rattle.words.specs.Choice.{every}
 use Rattle.memory_region.specs.declared.region.Region.{Region}
 use Rattle.memory_region.specs.declared.region.Right.{Right}
-use Rattle.memory_map.specs.declared.map.Map.{Map}
 use Rattle.memory_region.specs.Region.{keeps_rules, clear, permits, place_in}
-use Rattle.memory_map.specs.Map.{no_region, region_at, regions_of, all_keep_rules}
+use Rattle.memory_map.specs.Map.{all_keep_rules}
 use Rattle.memory_region.specs.Region.Follows.{follows}
 use Rattle.memory_map.specs.Map.Ascending.{ascending}
 use Rattle.memory_map.specs.Lookup.{at, refused, lookup_in}
 
-pub length-regions : (m : Map) → length m.regions ≡ 8 → (m.count < 8 → length (regions_of m) ≡ m.count) × (8 ≤ m.count → length (regions_of m) ≡ 8)
-unfolding regions_of
-length-regions m e =
-    let l : length (take m.count m.regions) ≡ _ = length-take m.count m.regions in
-    (λ h. omega arith, λ h. omega arith)
-
--- the eight regions, of which those before the count are in use
-module _ (m : Map) (i : ℕ) (whole : length m.regions ≡ 8) where
-  pub in_use : i < 8 → i < m.count → i < length (regions_of m)
-  unfolding regions_of
-  in_use h e = omega (arith, length-take m.count m.regions)
-
-  pub none_left : m.count ≤ i → length (regions_of m) ≤ i
-  unfolding regions_of
-  none_left e = omega (arith, length-take m.count m.regions)
-
-  pub all_read : 8 ≤ i → length (regions_of m) ≤ i
-  unfolding regions_of
-  all_read e = omega (arith, length-take m.count m.regions)
-
-module _ (m : Map) (i : ℕ) where
+module _ (l : List Region) (i : ℕ) (none : Region) where
   -- the region at i, then those behind it
-  next : i < length (regions_of m) → drop i (regions_of m) ≡ region_at m i ∷ drop (i + 1) (regions_of m)
-  unfolding regions_of
-  next h =
-      let l : i < m.count = omega (arith, length-take m.count m.regions) in
-      rw (add-one i, drop-cons (take m.count m.regions) i no_region h, get_or-take m.count m.regions i no_region l)
+  pub next : i < length l → drop i l ≡ get_or l i none ∷ drop (i + 1) l
+  next h = rw (add-one i, drop-cons l i none h)
 
-  none : length (regions_of m) ≤ i → drop i (regions_of m) ≡ []
-  none h = drop_of_length-le (regions_of m) h
+either : (b : Bool) → (b && false) ≡ false
+either true = refl
+either false = refl
 
+end : (l : List Region) (i : ℕ) → length l ≤ i → drop i l ≡ []
+end l i h = drop_of_length-le l h
+
+module _ (l : List Region) (i : ℕ) (none : Region) where
   module _ (t : Region → Bool) where
-    pub every-fails : i < length (regions_of m) → t (region_at m i) ≡ false → every t (drop i (regions_of m)) ≡ false
+    pub every-fails : i < length l → t (get_or l i none) ≡ false → every t (drop i l) ≡ false
     unfolding every
-    every-fails h e = simp (next h, e)
+    every-fails h e = simp (next l i none h, e)
 
-    pub every-goes : i < length (regions_of m) → t (region_at m i) ≡ true → every t (drop i (regions_of m)) ≡ every t (drop (i + 1) (regions_of m))
+    pub every-goes : i < length l → t (get_or l i none) ≡ true → every t (drop i l) ≡ every t (drop (i + 1) l)
     unfolding every
-    every-goes h e = simp (next h, e)
-
-    pub every-end : length (regions_of m) ≤ i → every t (drop i (regions_of m)) ≡ true
-    unfolding every
-    every-end h = rw (none h)
+    every-goes h e = simp (next l i none h, e)
 
   -- the region at i breaks a rule, or all is said by those behind it
-  pub rules-fail : i < length (regions_of m) → keeps_rules (region_at m i) ≡ false → all_keep_rules (drop i (regions_of m)) ≡ false
+  pub rules-fail : i < length l → keeps_rules (get_or l i none) ≡ false → all_keep_rules (drop i l) ≡ false
   unfolding all_keep_rules
-  rules-fail h e = simp (next h, e)
+  rules-fail h e = simp (next l i none h, e)
 
-  pub rules-go : i < length (regions_of m) → keeps_rules (region_at m i) ≡ true
-      → all_keep_rules (drop i (regions_of m)) ≡ (every (clear (region_at m i)) (drop (i + 1) (regions_of m)) && all_keep_rules (drop (i + 1) (regions_of m)))
+  pub meets-fail : i < length l → every (clear (get_or l i none)) (drop (i + 1) l) ≡ false → all_keep_rules (drop i l) ≡ false
   unfolding all_keep_rules
-  rules-go h e = simp (next h, e)
+  meets-fail h e = let z : (keeps_rules (get_or l i none) && false) ≡ false = either (keeps_rules (get_or l i none)) in simp (next l i none h, e, z)
 
-  pub rules-end : length (regions_of m) ≤ i → all_keep_rules (drop i (regions_of m)) ≡ true
+  pub rules-go : i < length l → keeps_rules (get_or l i none) ≡ true → every (clear (get_or l i none)) (drop (i + 1) l) ≡ true
+      → all_keep_rules (drop i l) ≡ all_keep_rules (drop (i + 1) l)
   unfolding all_keep_rules
-  rules-end h = rw (none h)
+  rules-go h e k = simp (next l i none h, e, k)
 
   module _ (k a p : ℕ) where
-    pub ascending-fails : i < length (regions_of m) → follows k a p (region_at m i) ≡ false → ascending k a p (drop i (regions_of m)) ≡ false
+    pub ascending-fails : i < length l → follows k a p (get_or l i none) ≡ false → ascending k a p (drop i l) ≡ false
     unfolding ascending
-    ascending-fails h e = simp (next h, e)
+    ascending-fails h e = simp (next l i none h, e)
 
-    pub ascending-goes : i < length (regions_of m) → follows k a p (region_at m i) ≡ true → ascending k a p (drop i (regions_of m))
-        ≡ ascending k ((region_at m i).base + (region_at m i).length) ((region_at m i).place + (region_at m i).length) (drop (i + 1) (regions_of m))
+    pub ascending-goes : i < length l → follows k a p (get_or l i none) ≡ true → ascending k a p (drop i l)
+        ≡ ascending k ((get_or l i none).base + (get_or l i none).length) ((get_or l i none).place + (get_or l i none).length) (drop (i + 1) l)
     unfolding ascending
-    ascending-goes h e = simp (next h, e)
-
-    pub ascending-end : length (regions_of m) ≤ i → ascending k a p (drop i (regions_of m)) ≡ true
-    unfolding ascending
-    ascending-end h = rw (none h)
+    ascending-goes h e = simp (next l i none h, e)
 
   module _ (r : Right) (a n : ℕ) where
-    pub search-hits : i < length (regions_of m) → permits (region_at m i) r a n ≡ true → lookup_in (drop i (regions_of m)) r a n ≡ at (place_in (region_at m i) a)
+    pub search-hits : i < length l → permits (get_or l i none) r a n ≡ true → lookup_in (drop i l) r a n ≡ at (place_in (get_or l i none) a)
     unfolding lookup_in
-    search-hits h e = simp (next h, e)
+    search-hits h e = simp (next l i none h, e)
 
-    pub search-goes : i < length (regions_of m) → permits (region_at m i) r a n ≡ false
-        → lookup_in (drop i (regions_of m)) r a n ≡ lookup_in (drop (i + 1) (regions_of m)) r a n
+    pub search-goes : i < length l → permits (get_or l i none) r a n ≡ false → lookup_in (drop i l) r a n ≡ lookup_in (drop (i + 1) l) r a n
     unfolding lookup_in
-    search-goes h e = simp (next h, e)
+    search-goes h e = simp (next l i none h, e)
 
-    pub search-end : length (regions_of m) ≤ i → lookup_in (drop i (regions_of m)) r a n ≡ refused 4
-    unfolding lookup_in
-    search-end h = rw (none h)
+module _ (l : List Region) (i : ℕ) (h : length l ≤ i) where
+  pub every-end : (t : Region → Bool) → every t (drop i l) ≡ true
+  unfolding every
+  every-end t = rw (end l i h)
+
+  pub rules-end : all_keep_rules (drop i l) ≡ true
+  unfolding all_keep_rules
+  rules-end = rw (end l i h)
+
+  pub ascending-end : (k a p : ℕ) → ascending k a p (drop i l) ≡ true
+  unfolding ascending
+  ascending-end k a p = rw (end l i h)
+
+  pub search-end : (r : Right) (a n : ℕ) → lookup_in (drop i l) r a n ≡ refused 4
+  unfolding lookup_in
+  search-end r a n = rw (end l i h)
+
+-- the slice from an index on
+pub every-rest : (t : Region → Bool) (l : List Region) (j : ℕ) → every t (take (length l - j) (drop j l)) ≡ every t (drop j l)
+every-rest t l j = ap (every t) (ap (λ (n : ℕ). take n (drop j l)) (sym (length-drop j l)) ∙ take-length (drop j l))

@@ -1,20 +1,20 @@
 -- What the code's addition hands back can be read back from what it says. So two that say the same are the same, and an equation of what it says decides it.
-use Rattle.std.specs.Prelude.{◌≡◌, refl}
-use Rattle.outcome.proofs.OutcomeInjective.{back-injective, refusal_back}
-use Rattle.memory_map.specs.declared.map.Verdict as CodeVerdict
-use Rattle.memory_map.specs.declared.map.Verdict.TheVariants.{Taken, Refused}
+use Rattle.std.specs.Prelude.{◌≡◌, refl, Result, Ok, Err}
+use Rattle.std.proofs.Common.{ap}
+use Rattle.outcome.specs.declared.refusal.Refusal.{Refusal}
+use Rattle.outcome.proofs.OutcomeInjective.{back-injective, refusal_back, refusal-back}
 use Rattle.memory_map.specs.declared.map.Addition as CodeAddition
 use Rattle.memory_map.specs.Map.{Verdict, taken, refused, Addition, verdict_of, addition_of}
 
-abbrev verdict_back : Verdict → CodeVerdict.Verdict
-verdict_back taken = Taken
-verdict_back (refused n p) = Refused (refusal_back n p)
+abbrev verdict_back : Verdict → Result Unit Refusal
+verdict_back taken = Ok tt
+verdict_back (refused n p) = Err (refusal_back n p)
 
-verdict-back : (x : CodeVerdict.Verdict) → verdict_back (verdict_of x) ≡ x
-verdict-back Taken = refl
-verdict-back (Refused r) = refl
+verdict-back : (x : Result Unit Refusal) → verdict_back (verdict_of x) ≡ x
+verdict-back (Ok w) = refl
+verdict-back (Err r) = ap (λ (x : Refusal). Err x) (refusal-back r)
 
-pub verdict-injective : (x y : CodeVerdict.Verdict) → verdict_of x ≡ verdict_of y → x ≡ y
+pub verdict-injective : (x y : Result Unit Refusal) → verdict_of x ≡ verdict_of y → x ≡ y
 verdict-injective = back-injective verdict_of verdict_back verdict-back
 
 abbrev addition_back : Addition → CodeAddition.Addition

@@ -1,8 +1,9 @@
 -- Run addresses (paper 01, "Memory map", third paragraph).
-use Rattle.std.specs.Prelude.{Bool, false, ℕ, ◌-◌, ◌%◌, eqb, if◌then◌else◌}
+use Rattle.std.specs.Prelude.{Bool, false, ℕ, ◌-◌, ◌%◌, eqb, if◌then◌else◌, Result, Ok, Err}
 use Rattle.memory_region.specs.declared.region.Right.TheVariants.{Run}
-use Rattle.memory_map.specs.declared.map.RunEntry as CodeEntry
-use Rattle.memory_map.specs.declared.map.RunEntry.TheVariants.{Legal, Refused}
+use Rattle.outcome.specs.declared.answer.Entry.{Entry}
+use Rattle.outcome.specs.declared.refusal.Cause.{Cause}
+use Rattle.outcome.specs.Refusal.{number_of}
 use Rattle.outcome.specs.Outcome.{Kind, arm, thumb, kind_of, address_of}
 use Rattle.memory_map.specs.Lookup.{Lookup, found}
 
@@ -26,6 +27,6 @@ unfoldable pub run_entry : Lookup → ℕ → RunEntry
 run_entry find a = if legal find a then entry (kind_at a) a else refused 9
 
 -- ---- the code's answer
-abbrev pub run_entry_of : CodeEntry.RunEntry → RunEntry
-run_entry_of (Legal e) = entry (kind_of e) (address_of e)
-run_entry_of (Refused n) = refused n
+abbrev pub run_entry_of : Result Entry Cause → RunEntry
+run_entry_of (Ok e) = entry (kind_of e) (address_of e)
+run_entry_of (Err c) = refused (number_of c)

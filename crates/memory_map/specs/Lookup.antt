@@ -1,10 +1,10 @@
 -- Lookup (paper 01, "Memory map"): the buffer place of a permitted range. `lookup` is shut; its other laws stand in proofs/LookupLaws.antt.
-use Rattle.std.specs.Prelude.{◌≡◌, refl, Bool, true, false, List, [], ◌∷◌, ℕ, if◌then◌else◌}
+use Rattle.std.specs.Prelude.{◌≡◌, refl, Bool, true, false, List, [], ◌∷◌, ℕ, if◌then◌else◌, Result, Ok, Err}
 use Rattle.memory_region.specs.declared.region.Region.{Region}
 use Rattle.memory_region.specs.declared.region.Right.{Right}
 use Rattle.memory_map.specs.declared.map.Map.{Map}
-use Rattle.memory_map.specs.declared.map.Found as CodeFound
-use Rattle.memory_map.specs.declared.map.Found.TheVariants.{At, Refused}
+use Rattle.outcome.specs.declared.refusal.Cause.{Cause}
+use Rattle.outcome.specs.Refusal.{number_of}
 use Rattle.memory_region.specs.Region.{permits, place_in}
 use Rattle.memory_map.specs.Map.{regions_of}
 
@@ -34,9 +34,9 @@ pub lookup : Map → Lookup
 lookup m = lookup_in (regions_of m)
 
 -- ---- the code's answer
-abbrev pub found_of : CodeFound.Found → Found
-found_of (At p) = at p
-found_of (Refused n) = refused n
+abbrev pub found_of : Result ℕ Cause → Found
+found_of (Ok p) = at p
+found_of (Err c) = refused (number_of c)
 
 -- how it is computed: the one law that looks into it
 pub lookup-computes : (m : Map) (r : Right) (a n : ℕ) → lookup m r a n ≡ lookup_in (regions_of m) r a n

@@ -1,11 +1,11 @@
 -- The map (paper 01, "Memory map").
 pub mod Ascending
-use Rattle.std.specs.Prelude.{Bool, true, false, ◌&&◌, List, [], ◌∷◌, ℕ, ◌+◌, leb, take, set, get_or, replicate, if◌then◌else◌}
+use Rattle.std.specs.Prelude.{Bool, true, false, ◌&&◌, List, [], ◌∷◌, ℕ, ◌+◌, leb, take, set, get_or, replicate, if◌then◌else◌, Result, Ok, Err}
 use Rattle.words.specs.Choice.{every}
 use Rattle.memory_region.specs.declared.region.Region.{Region}
 use Rattle.memory_map.specs.declared.map.Map.{Map}
-use Rattle.memory_map.specs.declared.map.Verdict as CodeVerdict
-use Rattle.memory_map.specs.declared.map.Verdict.TheVariants.{Taken, Refused}
+use Rattle.outcome.specs.declared.refusal.Refusal.{Refusal}
+use Rattle.outcome.specs.Refusal.{number_of}
 use Rattle.memory_map.specs.declared.map.Addition as CodeAddition
 use Rattle.memory_region.specs.Region.{keeps_rules, clear, ends_inside}
 
@@ -56,9 +56,9 @@ add m g =
     else record { map = m; verdict = refused 1 0 }
 
 -- ---- the code's answer
-abbrev pub verdict_of : CodeVerdict.Verdict → Verdict
-verdict_of Taken = taken
-verdict_of (Refused r) = refused r.number r.place
+abbrev pub verdict_of : Result Unit Refusal → Verdict
+verdict_of (Ok w) = taken
+verdict_of (Err r) = refused (number_of r.cause) r.place
 
 abbrev pub addition_of : CodeAddition.Addition → Addition
 addition_of a = record { map = a.map; verdict = verdict_of a.verdict }

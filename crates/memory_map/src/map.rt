@@ -1,15 +1,18 @@
 // Up to eight regions over one lent buffer.
-ghost use Rattle.std.specs.Prelude.{◌≡◌, ◌+◌, ◌<◌, ◌≤◌, length, if◌then◌else◌};
+ghost use Rattle.std.specs.Prelude.{◌≡◌, if◌then◌else◌};
+ghost use Rattle.std.specs.Option.{option_map_or};
 ghost use Rattle.words.specs.Choice.{every};
-ghost use Rattle.memory_region.specs.Region.{ends_inside};
+ghost use Rattle.memory_region.specs.Region.{clear, ends_inside};
 ghost use Rattle.memory_map.specs.Map.Ascending.{ascending};
 ghost use Rattle.memory_map.specs.Map.{regions_of, all_keep_rules, empty_map, well_formed, sound, refused, add, addition_of};
-ghost use Rattle.memory_map.specs.Lookup.{place_of, lookup, found_of};
-ghost use Rattle.memory_map.specs.Entry.{run_entry, run_entry_of};
+ghost use Rattle.memory_region.specs.declared.region.Right.TheVariants as right;
+ghost use Rattle.outcome.specs.Outcome.{kind_of, address_of};
+ghost use Rattle.memory_map.specs.Lookup.{found, place_of, lookup, found_of};
+ghost use Rattle.memory_map.specs.Entry.{entry as entry_of, refused as not_legal, run_entry, run_entry_of};
 
-use crate::refusal::{MAP_NOT_SOUND, NOT_PERMITTED, RUN_NOT_LEGAL};
 use memory_region::region::{Region, Right, Rights};
-use outcome::answer::{Entry, Refusal};
+use outcome::answer::Entry;
+use outcome::refusal::{Cause, Refusal};
 
 // Regions 0 to `count` - 1 are in use.
 #[derive(Clone, Copy)]
@@ -18,53 +21,71 @@ pub struct Map {
     pub count: usize,
 }
 
-#[derive(Clone, Copy)]
-pub enum Verdict {
-    Taken,
-    Refused(Refusal),
-}
-
-// What an addition hands back.
+// What an addition hands back: the map with the region more, or, refused, the map as it was.
 #[derive(Clone, Copy)]
 pub struct Addition {
     pub map: Map,
-    pub verdict: Verdict,
-}
-
-// The buffer place of a permitted range, or the number of the refusal.
-#[derive(Clone, Copy)]
-pub enum Found {
-    At(usize),
-    Refused(u32),
-}
-
-// A legal run entry, or the number of the refusal.
-#[derive(Clone, Copy)]
-pub enum RunEntry {
-    Legal(Entry),
-    Refused(u32),
+    pub verdict: Result<(), Refusal>,
 }
 
 // The place of a range that was found, or 0 where it was not.
-pub fn place(found: Found) -> usize
+pub fn place(found: Result<usize, Cause>) -> usize
     ensures { result ≡ place_of (found_of found) }
 {
-    match found {
-        Found::At(p) => p,
-        Found::Refused(_) => 0,
-    }
+    found.unwrap_or(0)
 }
 
-fn refused(map: Map) -> Addition
-    ensures { addition_of result ≡ record { map = map; verdict = refused 1 0 } }
+// Whether each region keeps its own rules, begins where the one before it ends or behind that, in addresses and in places, and ends inside
+// a buffer of so many bytes.
+fn ascend(regions: &[Region], size: usize) -> bool
+    ensures { result ≡ ascending size 0 0 regions.now }
 {
-    Addition {
-        map,
-        verdict: Verdict::Refused(Refusal {
-            number: MAP_NOT_SOUND,
-            place: 0,
-        }),
+    let mut address: u64 = 0;
+    let mut place: u64 = 0;
+    for region in regions {
+        if !region.follows(size, address, place) {
+            return false;
+        }
+        address = region.base as u64 + region.length as u64;
+        place = region.place as u64 + region.length as u64;
     }
+    true
+}
+
+// Whether a region is clear of all of these.
+fn is_clear_of(region: Region, others: &[Region]) -> bool
+    ensures { result ≡ every (clear region) others.now }
+{
+    for other in others {
+        if !region.clear_of(*other) {
+            return false;
+        }
+    }
+    true
+}
+
+// Whether each region keeps its own rules, and is clear of the later ones.
+fn all_clear(regions: &[Region]) -> bool
+    ensures { result ≡ all_keep_rules regions.now }
+{
+    for (i, region) in regions.iter().enumerate() {
+        if !region.keeps_rules() || !is_clear_of(*region, &regions[i + 1..]) {
+            return false;
+        }
+    }
+    true
+}
+
+// Whether every region ends inside a buffer of so many bytes.
+fn all_end_inside(regions: &[Region], size: usize) -> bool
+    ensures { result ≡ every (ends_inside size) regions.now }
+{
+    for region in regions {
+        if !region.ends_inside(size) {
+            return false;
+        }
+    }
+    true
 }
 
 impl Map {
@@ -88,114 +109,47 @@ impl Map {
         }
     }
 
-    // The number of regions in use.
-    fn used(self) -> usize
-        ensures { (result ≡ length (regions_of self)) × (result ≤ 8) }
+    // The regions in use.
+    fn in_use(&self) -> &[Region]
+        ensures { result.now ≡ regions_of self.now }
     {
-        let n = self.count;
-        if n < 8 { n } else { 8 }
+        &self.regions[..self.count.min(8)]
     }
 
-    // Whether each region in use keeps its own rules, begins where the one before it ends or behind that, in addresses and in places, and ends
-    // inside a buffer of so many bytes.
-    fn ascends(self, size: usize) -> bool
-        ensures { result ≡ ascending size 0 0 (regions_of self) }
+    // Whether the map keeps every rule that needs no buffer and, where the length of one is given, is sound for it. Regions that ascend are not
+    // compared each with each.
+    fn passes(self, buffer: Option<usize>) -> bool
+        ensures { result ≡ option_map_or (sound self) buffer (well_formed self) }
     {
-        let n = self.count;
-        let mut address: u64 = 0;
-        let mut place: u64 = 0;
-        let mut i: usize = 0;
-        while i < 8 {
-            if n <= i {
-                return true;
-            }
-            let region = self.regions[i];
-            if !region.follows(size, address, place) {
-                return false;
-            }
-            address = region.base as u64 + region.length as u64;
-            place = region.place as u64 + region.length as u64;
-            i += 1;
-        }
-        true
-    }
-
-    // Whether each region in use keeps its own rules, and is clear of the later ones.
-    fn all_clear(self) -> bool
-        ensures { result ≡ all_keep_rules (regions_of self) }
-    {
-        let n = self.used();
-        let mut i: usize = 0;
-        while i < n {
-            let region = self.regions[i];
-            if !region.keeps_rules() {
-                return false;
-            }
-            let mut j = i + 1;
-            while j < n {
-                let other = self.regions[j];
-                if !region.clear_of(other) {
-                    return false;
-                }
-                j += 1;
-            }
-            i += 1;
-        }
-        true
-    }
-
-    // Whether every region ends inside a buffer of so many bytes.
-    fn ends_inside(self, size: usize) -> bool
-        ensures { result ≡ every (ends_inside size) (regions_of self) }
-    {
-        let n = self.count;
-        let mut i: usize = 0;
-        while i < 8 {
-            if n <= i {
-                return true;
-            }
-            let region = self.regions[i];
-            if !region.ends_inside(size) {
-                return false;
-            }
-            i += 1;
-        }
-        true
-    }
-
-    // Whether the map keeps every rule that needs no buffer and, where one is given, is sound for a buffer of so many bytes. Regions that
-    // ascend are not compared each with each.
-    fn passes(self, buffered: bool, size: usize) -> bool
-        ensures { result ≡ (if buffered then sound self size else well_formed self) }
-    {
+        let regions = self.in_use();
         if self.count > 8 {
             return false;
         }
-        if self.ascends(size) {
+        // regions of 32-bit numbers all end inside 2^33 bytes
+        if ascend(regions, buffer.unwrap_or(8589934592)) {
             return true;
         }
-        if !self.all_clear() {
+        if !all_clear(regions) {
             return false;
         }
-        if buffered {
-            self.ends_inside(size)
-        } else {
-            true
+        match buffer {
+            Some(size) => all_end_inside(regions, size),
+            None => true,
         }
     }
 
-    // Whether the map keeps every rule that needs no buffer. Regions of 32-bit numbers all end inside 2^33 bytes.
+    // Whether the map keeps every rule that needs no buffer.
     pub fn well_formed(self) -> bool
         ensures { result ≡ well_formed self }
     {
-        self.passes(false, 8589934592)
+        self.passes(None)
     }
 
     // Whether the map is sound for a buffer of so many bytes.
     pub fn sound(self, size: usize) -> bool
         ensures { result ≡ sound self size }
     {
-        self.passes(true, size)
+        self.passes(Some(size))
     }
 
     // The map with a region more, or, refused, the map as it was.
@@ -203,53 +157,56 @@ impl Map {
         ensures { addition_of result ≡ add self region }
     {
         let before = self;
-        let n = self.count;
-        if n >= 8 {
-            return refused(before);
+        let refused = Addition {
+            map: before,
+            verdict: Err(Cause::MapNotSound.at(0)),
+        };
+        if self.count >= 8 {
+            return refused;
         }
-        self.regions[n] = region;
-        self.count = n + 1;
+        self.regions[self.count] = region;
+        self.count += 1;
         if self.well_formed() {
             return Addition {
                 map: self,
-                verdict: Verdict::Taken,
+                verdict: Ok(()),
             };
         }
-        refused(before)
+        refused
     }
 
     // The buffer place of `length` addresses from `address` on, where one region permits them.
-    pub fn lookup(self, right: Right, address: u32, length: u64) -> Found
+    pub fn lookup(self, right: Right, address: u32, length: u64) -> Result<usize, Cause>
         ensures { found_of result ≡ lookup self right address length }
     {
-        let n = self.used();
-        let mut i: usize = 0;
-        while i < n {
-            let region = self.regions[i];
+        for region in self.in_use() {
             if region.permits(right, address, length) {
-                return Found::At(region.place_of(address));
+                return Ok(region.place_of(address));
             }
-            i += 1;
         }
-        Found::Refused(NOT_PERMITTED)
+        Err(Cause::NotPermitted)
+    }
+
+    // A run entry, where the byte at its address may be run.
+    fn permit_run(self, first: u32, entry: Entry) -> Result<Entry, Cause>
+        ensures { run_entry_of result ≡ (if found (lookup self right.Run first 1) then entry_of (kind_of entry) (address_of entry) else not_legal 9) }
+    {
+        match self.lookup(Right::Run, first, 1) {
+            Ok(_) => Ok(entry),
+            Err(_) => Err(Cause::RunNotLegal),
+        }
     }
 
     // The run entry at an address, where it is legal.
-    pub fn run_entry(self, address: u32) -> RunEntry
+    pub fn run_entry(self, address: u32) -> Result<Entry, Cause>
         ensures { run_entry_of result ≡ run_entry (lookup self) address }
     {
         if address % 2 == 1 {
-            match self.lookup(Right::Run, address - 1, 1) {
-                Found::At(_) => RunEntry::Legal(Entry::Thumb(address)),
-                Found::Refused(_) => RunEntry::Refused(RUN_NOT_LEGAL),
-            }
+            self.permit_run(address - 1, Entry::Thumb(address))
         } else if address % 4 == 0 {
-            match self.lookup(Right::Run, address, 1) {
-                Found::At(_) => RunEntry::Legal(Entry::Arm(address)),
-                Found::Refused(_) => RunEntry::Refused(RUN_NOT_LEGAL),
-            }
+            self.permit_run(address, Entry::Arm(address))
         } else {
-            RunEntry::Refused(RUN_NOT_LEGAL)
+            Err(Cause::RunNotLegal)
         }
     }
 }

@@ -1,12 +1,13 @@
 -- What a load answers, in the terms of paper 01 ("Memory map", last paragraph; "Refusal numbers"; "APLX", last paragraph),
 -- and what each case of the code's answer says in these terms.
-use Rattle.std.specs.Prelude.{List, ℕ}
+use Rattle.std.specs.Prelude.{List, ℕ, Result, Ok, Err}
 use Rattle.outcome.specs.declared.answer.Entry.{Entry}
 use Rattle.outcome.specs.declared.answer.Entry.TheVariants.{Arm, Thumb}
 use Rattle.outcome.specs.declared.answer.Stop as CodeStop
 use Rattle.outcome.specs.declared.answer.Stop.TheVariants.{End, Unknown, Run}
-use Rattle.outcome.specs.declared.answer.Answer.{Answer}
-use Rattle.outcome.specs.declared.answer.Answer.TheVariants.{Refused, Accepted}
+use Rattle.outcome.specs.declared.answer.Load.{Load}
+use Rattle.outcome.specs.declared.refusal.Refusal.{Refusal}
+use Rattle.outcome.specs.Refusal.{number_of}
 
 -- the kind of a run's entry
 pub data Kind : Type 0 where
@@ -62,6 +63,6 @@ stop_of (End p) = end p
 stop_of (Unknown c p) = unknown c p
 stop_of (Run e r) = run (kind_of e) (address_of e) r
 
-abbrev pub outcome_of : Answer → Outcome
-outcome_of (Refused r) = refused r.number r.place
-outcome_of (Accepted s t b) = accepted (stop_of s) t b
+abbrev pub outcome_of : Result Load Refusal → Outcome
+outcome_of (Err r) = refused (number_of r.cause) r.place
+outcome_of (Ok l) = accepted (stop_of l.stop) l.taken l.stored

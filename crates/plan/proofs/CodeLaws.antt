@@ -1,6 +1,6 @@
 -- Laws of the code's readings of an accepted plan, over the unit of the medium: the piece that the code reads at an index is the plan's,
 -- and so are the sums that the reader answers.
-use Rattle.std.specs.Prelude.{◌≡◌, refl, List, [], ◌∷◌, ◌++◌, ℕ, suc, ◌+◌, ◌*◌, ◌≤◌, ◌<◌, length, take, drop, get_or}
+use Rattle.std.specs.Prelude.{◌≡◌, refl, List, [], ◌∷◌, ◌++◌, ℕ, suc, ◌+◌, ◌*◌, ◌≤◌, ◌<◌, length, take, drop, get_or, Result, Ok}
 use Rattle.std.proofs.Common.{ap, sym, ◌∙◌, add-one, arith, take-suc, drop-cons, Fits}
 use Rattle.std.specs.Int.{w8}
 use Rattle.words.specs.Choice.{All}
@@ -8,8 +8,8 @@ use Rattle.words.proofs.ChoiceLaws.{all-elements}
 use Rattle.words.specs.Bytes.{Bytes}
 use Rattle.plan.specs.declared.piece.Piece as CodePiece
 use Rattle.plan.specs.declared.piece.Piece.TheVariants.{Put, Fill, Run}
-use Rattle.plan.specs.declared.read.Answer as CodeAnswer
-use Rattle.plan.specs.declared.read.Answer.TheVariants as answer
+use Rattle.outcome.specs.declared.refusal.Refusal.{Refusal}
+use Rattle.plan.specs.declared.read.Pieces.{Pieces}
 use Rattle.plan.specs.Plan.{Piece, run, data_of, filled_by, put_bytes, fill_bytes, data_at, data_length, piece_in, good, piece_at, Read, refused, pieces, read_plan}
 use Rattle.plan.specs.Packable.{Packable}
 use Rattle.plan.proofs.PlanLaws.{Passed, row-passed, data-length, packable, read-header, read_count, read-piece}
@@ -91,20 +91,20 @@ pub record Counted (t : Read) (n p f : ℕ) : Type 0 where
 
 -- pieces of a reader that gives at most 64, each packable
 pub counted-pieces : (unit : ℕ) (t : Read) → ((ps : List Piece) → t ≡ pieces ps → (length ps ≤ 64) × All (Packable unit) ps)
-    → {r : CodeAnswer.Answer} → outcome_is r ≡ outcome_of t → {n p f : ℕ} → r ≡ answer.Pieces n p f → Counted t n p f
-counted-pieces unit t u {r} h {n} {p} {f} k = go t u (sym h ∙ ap outcome_is k)
+    → {r : Result Pieces Refusal} → outcome_is r ≡ outcome_of t → {v : Pieces} → r ≡ Ok v → Counted t v.count v.puts v.fills
+counted-pieces unit t u h {v = v} k = go t u {n = v.count} {p = v.puts} {f = v.fills} (sym h ∙ ap outcome_is k)
   where
-    go : (t : Read) → ((ps : List Piece) → t ≡ pieces ps → (length ps ≤ 64) × All (Packable unit) ps) → outcome_of t ≡ reads n p f → Counted t n p f
+    go : (t : Read) → ((ps : List Piece) → t ≡ pieces ps → (length ps ≤ 64) × All (Packable unit) ps) → {n p f : ℕ} → outcome_of t ≡ reads n p f → Counted t n p f
     go (refused x i) u g = let z : ◌≡◌ {A = ℕ} 0 1 = cc in absurd (omega arith)
-    go (pieces ps) u g =
+    go (pieces ps) u {n} {p} {f} g =
         let c : n ≡ length ps = cc in
         let d : p ≡ put_bytes ps = cc in
         let h : f ≡ fill_bytes ps = cc in
         let v = u ps refl in
         record { accepted = refl; count = c; puts = d; fills = h; few = omega (arith, v.0); most = omega (arith, bytes_most unit ps v.1) }
 
-pub counted : (unit : ℕ) (s : List ℕ) → Known s → {r : CodeAnswer.Answer} → outcome_is r ≡ outcome_of (read_plan unit s) → {n p f : ℕ}
-    → r ≡ answer.Pieces n p f → Counted (read_plan unit s) n p f
+pub counted : (unit : ℕ) (s : List ℕ) → Known s → {r : Result Pieces Refusal} → outcome_is r ≡ outcome_of (read_plan unit s) → {v : Pieces}
+    → r ≡ Ok v → Counted (read_plan unit s) v.count v.puts v.fills
 counted unit s b =
     counted-pieces unit (read_plan unit s)
     (λ ps e. (omega (arith, read_count unit s e, (read-header unit s e).few), packable unit s (known_bytes s b) e))

@@ -1,10 +1,10 @@
 -- Laws of a packer, over the image: what it answers and leaves, by what the reader answered it.
-use Rattle.std.specs.Prelude.{◌≡◌, refl, List, ℕ, ◌≤◌, ◌<◌, length}
+use Rattle.std.specs.Prelude.{◌≡◌, refl, List, ℕ, ◌≤◌, ◌<◌, length, Result, Err}
 use Rattle.std.proofs.Common.{ap, sym, ◌∙◌, arith, lt-ltb, le-ltb}
 use Rattle.words.specs.Store.{store}
-use Rattle.outcome.specs.declared.answer.Refusal.{Refusal}
-use Rattle.plan.specs.declared.read.Answer as CodeAnswer
-use Rattle.plan.specs.declared.read.Answer.TheVariants as answer
+use Rattle.outcome.specs.declared.refusal.Refusal.{Refusal}
+use Rattle.outcome.specs.Refusal.{number_of}
+use Rattle.plan.specs.declared.read.Pieces.{Pieces}
 use Rattle.plan.specs.Plan.{Piece, Read, refused, pieces}
 use Rattle.plan.specs.Packed.{Packed, refuses, packed_as, output_after, Outcome, refusal, sized, outcome_of, written_length, pieces_in}
 use Rattle.plan.specs.Code as reader
@@ -25,11 +25,11 @@ module _ (image : List Piece → List ℕ) (t : Read) (m : List ℕ) where
   Leaves o after = (o ≡ outcome_of packed) × (after ≡ output_after packed m)
 
   -- the reader refuses
-  pub leaves-refused : {r : CodeAnswer.Answer} → reader.outcome_is r ≡ reader.outcome_of t → {x : Refusal} → r ≡ answer.Refused x
-      → Leaves (refusal x.number x.place) m
+  pub leaves-refused : {r : Result Pieces Refusal} → reader.outcome_is r ≡ reader.outcome_of t → {x : Refusal} → r ≡ Err x
+      → Leaves (refusal (number_of x.cause) x.place) m
   leaves-refused h {x} k = rw (go t (sym h ∙ ap reader.outcome_is k)) (refl, refl)
     where
-      go : (t : Read) → reader.outcome_of t ≡ reader.refuses x.number x.place → packed_as image t (length m) ≡ refuses x.number x.place
+      go : (t : Read) → reader.outcome_of t ≡ reader.refuses (number_of x.cause) x.place → packed_as image t (length m) ≡ refuses (number_of x.cause) x.place
       go (refused y j) f = cc
       go (pieces ps) f = let z : ◌≡◌ {A = ℕ} 0 1 = cc in absurd (omega arith)
 

@@ -1,8 +1,8 @@
 -- Computed examples of plans: what is read, and what it means (paper 01, "Plans").
-use Rattle.std.specs.Prelude.{◌≡◌, refl, true, List, [], ◌∷◌, ◌++◌, ℕ, ◌+◌, ◌*◌, length, take, replicate}
+use Rattle.std.specs.Prelude.{◌≡◌, refl, true, List, [], ◌∷◌, ◌++◌, ℕ, ◌+◌, ◌*◌, length, take, replicate, Ok, Err}
 use Rattle.words.specs.Bytes.{little_endian}
 use Rattle.memory_map.specs.Lookup.{Lookup, lookup_in}
-use Rattle.plan.specs.declared.packed.Answer.TheVariants as CodeAnswer
+use Rattle.outcome.specs.declared.refusal.Cause.TheVariants.{OutputTooSmall}
 use Rattle.plan.specs.Code as reader
 use Rattle.plan.specs.Code.Packer.{outcome_is}
 use Rattle.plan.specs.Plan.{Piece, put, fill, run, put_bytes, fill_bytes, put_row, good, piece_at, refused, pieces, read_plan}
@@ -146,8 +146,8 @@ packings = record { fits = refl; too_small = refl; refused-first = refl }
 
 -- what a packer's answers say
 record Answers : Type 0 where
-  pub packed : outcome_is (CodeAnswer.Packed 29) ≡ sized 29
-  pub refused : outcome_is (CodeAnswer.Refused (record { number = 10; place = 3 })) ≡ refusal 10 3
+  pub packed : outcome_is (Ok 29) ≡ sized 29
+  pub refused : outcome_is (Err (record { cause = OutputTooSmall; place = 3 })) ≡ refusal 10 3
 
 answers : Answers
 answers = record { packed = refl; refused = refl }

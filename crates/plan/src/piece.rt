@@ -1,19 +1,13 @@
 // One piece of a plan.
 ghost use Rattle.std.specs.Prelude.{◌≡◌, ◌%◌, eqb};
-ghost use Rattle.plan.specs.Plan.{judge_run, judge_fill, judge_data, judge_put, judge_kind, piece_at};
-ghost use Rattle.plan.specs.Code.{unit_of, put_length, fill_length, row_is, judged_is, row_of};
+ghost use Rattle.plan.specs.Plan.{Judged as JudgedAs, judge_run, judge_fill, judge_data, judge_put, judge_kind, piece_at};
+ghost use Rattle.plan.specs.Code.{unit_of, put_length, fill_length, row_is, judged_is, row_of, extent_then, judge_extent};
 
-use memory_map::refusal::RUN_NOT_LEGAL;
-use outcome::answer::{CUT_SHORT, NOT_ALIGNED, ZERO_LENGTH};
+use outcome::refusal::Cause;
 use words::read::le_word_at;
 
-// The numbers of the refusals that only a plan is given.
-pub const PLAN_MALFORMED: u32 = 11;
-
-const LENGTH_NOT_EXPRESSIBLE: u32 = 12;
-
 // The medium whose lengths are asked for: multiples of 32, of 4, or any.
-#[derive(Clone, Copy)]
+#[derive(Clone, Copy, Debug, PartialEq, Eq)]
 pub enum Target {
     Aplx,
     Srom,
@@ -21,7 +15,7 @@ pub enum Target {
 }
 
 // A put's data stands in the plan, or in the image that was read back, from an offset on.
-#[derive(Clone, Copy)]
+#[derive(Clone, Copy, Debug, PartialEq, Eq)]
 pub enum Piece {
     Put {
         address: u32,
@@ -38,29 +32,13 @@ pub enum Piece {
     },
 }
 
-// A piece, or the number of its refusal.
-#[derive(Clone, Copy)]
-pub enum Judged {
-    Good(Piece),
-    Bad(u32),
-}
-
 // The length of a put; 0 for another piece.
 pub fn put_length(piece: Piece) -> usize
     ensures { result ≡ put_length piece }
 {
     match piece {
-        Piece::Put {
-            address: _,
-            from: _,
-            length,
-        } => length,
-        Piece::Fill {
-            address: _,
-            length: _,
-            word: _,
-        } => 0,
-        Piece::Run { address: _ } => 0,
+        Piece::Put { length, .. } => length,
+        Piece::Fill { .. } | Piece::Run { .. } => 0,
     }
 }
 
@@ -69,17 +47,8 @@ pub fn fill_length(piece: Piece) -> usize
     ensures { result ≡ fill_length piece }
 {
     match piece {
-        Piece::Put {
-            address: _,
-            from: _,
-            length: _,
-        } => 0,
-        Piece::Fill {
-            address: _,
-            length,
-            word: _,
-        } => length,
-        Piece::Run { address: _ } => 0,
+        Piece::Fill { length, .. } => length,
+        Piece::Put { .. } | Piece::Run { .. } => 0,
     }
 }
 
@@ -94,78 +63,77 @@ fn is_whole(target: Target, length: u32) -> bool
     }
 }
 
-fn judge_run(address: u32, length: u32, last: u32) -> Judged
+// The tests that a put and a fill have in common, before their other ones.
+#[tactic(auto, unfolding(crate::specs::Code::judge_extent))]
+fn judge_extent(address: u32, length: u32) -> Result<(), Cause>
+    ensures { (rest : JudgedAs) → extent_then result rest ≡ judge_extent address length rest }
+{
+    if length == 0 {
+        return Err(Cause::ZeroLength);
+    }
+    if length > 65536 {
+        return Err(Cause::PlanMalformed);
+    }
+    if address % 4 != 0 {
+        return Err(Cause::NotAligned);
+    }
+    Ok(())
+}
+
+#[tactic(auto, unfolding(crate::specs::Plan::judge_run))]
+fn judge_run(address: u32, length: u32, last: u32) -> Result<Piece, Cause>
     ensures { judged_is result ≡ judge_run address length last }
 {
-    if length != 0 {
-        return Judged::Bad(PLAN_MALFORMED);
-    }
-    if last != 0 {
-        return Judged::Bad(PLAN_MALFORMED);
+    if length != 0 || last != 0 {
+        return Err(Cause::PlanMalformed);
     }
     if address % 4 == 2 {
-        return Judged::Bad(RUN_NOT_LEGAL);
+        return Err(Cause::RunNotLegal);
     }
-    Judged::Good(Piece::Run { address })
+    Ok(Piece::Run { address })
 }
 
-fn judge_fill(target: Target, address: u32, length: u32, word: u32) -> Judged
+#[tactic(auto, unfolding(crate::specs::Plan::judge_fill, crate::specs::Code::judge_extent))]
+fn judge_fill(target: Target, address: u32, length: u32, word: u32) -> Result<Piece, Cause>
     ensures { judged_is result ≡ judge_fill (unit_of target) address length word }
 {
-    if length == 0 {
-        return Judged::Bad(ZERO_LENGTH);
+    judge_extent(address, length)?;
+    if !is_whole(target, length) {
+        return Err(Cause::LengthNotExpressible);
     }
-    if length > 65536 {
-        return Judged::Bad(PLAN_MALFORMED);
-    }
-    if address % 4 != 0 {
-        return Judged::Bad(NOT_ALIGNED);
-    }
-    if is_whole(target, length) {
-        return Judged::Good(Piece::Fill {
-            address,
-            length: length as usize,
-            word,
-        });
-    }
-    Judged::Bad(LENGTH_NOT_EXPRESSIBLE)
+    Ok(Piece::Fill {
+        address,
+        length: length as usize,
+        word,
+    })
 }
 
-// The data of a put whose address and length are in order.
-fn judge_data(plan: &[u8], target: Target, address: u32, length: u32, offset: u32) -> Judged
-    ensures { judged_is result ≡ judge_data (unit_of target) plan.now address length offset }
-{
-    let start = offset as u64;
-    let size = le_word_at(plan, 12) as u64;
-    if size < start + length as u64 {
-        return Judged::Bad(CUT_SHORT);
-    }
-    if is_whole(target, length) {
-        let from = le_word_at(plan, 8) as usize + offset as usize;
-        return Judged::Good(Piece::Put {
-            address,
-            from,
-            length: length as usize,
-        });
-    }
-    Judged::Bad(LENGTH_NOT_EXPRESSIBLE)
-}
-
-fn judge_put(plan: &[u8], target: Target, address: u32, length: u32, offset: u32) -> Judged
+#[tactic(auto, unfolding(crate::specs::Plan::judge_put, crate::specs::Plan::judge_data, crate::specs::Code::judge_extent))]
+fn judge_put(
+    plan: &[u8],
+    target: Target,
+    address: u32,
+    length: u32,
+    offset: u32,
+) -> Result<Piece, Cause>
     ensures { judged_is result ≡ judge_put (unit_of target) plan.now address length offset }
 {
-    if length == 0 {
-        return Judged::Bad(ZERO_LENGTH);
+    judge_extent(address, length)?;
+    let size = le_word_at(plan, 12) as u64;
+    if size < offset as u64 + length as u64 {
+        return Err(Cause::CutShort);
     }
-    if length > 65536 {
-        return Judged::Bad(PLAN_MALFORMED);
+    if !is_whole(target, length) {
+        return Err(Cause::LengthNotExpressible);
     }
-    if address % 4 != 0 {
-        return Judged::Bad(NOT_ALIGNED);
-    }
-    judge_data(plan, target, address, length, offset)
+    Ok(Piece::Put {
+        address,
+        from: le_word_at(plan, 8) as usize + offset as usize,
+        length: length as usize,
+    })
 }
 
+#[tactic(auto, unfolding(crate::specs::Plan::judge_kind))]
 fn judge_kind(
     plan: &[u8],
     target: Target,
@@ -173,23 +141,20 @@ fn judge_kind(
     address: u32,
     length: u32,
     last: u32,
-) -> Judged
+) -> Result<Piece, Cause>
     ensures { judged_is result ≡ judge_kind (unit_of target) plan.now kind address length last }
 {
-    if kind == 1 {
-        return judge_put(plan, target, address, length, last);
+    match kind {
+        1 => judge_put(plan, target, address, length, last),
+        2 => judge_fill(target, address, length, last),
+        3 => judge_run(address, length, last),
+        _ => Err(Cause::PlanMalformed),
     }
-    if kind == 2 {
-        return judge_fill(target, address, length, last);
-    }
-    if kind == 3 {
-        return judge_run(address, length, last);
-    }
-    Judged::Bad(PLAN_MALFORMED)
 }
 
 // The piece with an index, by the plan's own table.
-pub fn piece_at(plan: &[u8], target: Target, index: u32) -> Judged
+#[tactic(auto, unfolding(crate::specs::Plan::piece_at, crate::specs::Plan::judge_at))]
+pub fn piece_at(plan: &[u8], target: Target, index: u32) -> Result<Piece, Cause>
     ensures { judged_is result ≡ piece_at (unit_of target) plan.now index }
 {
     let at = le_word_at(plan, 4) as usize + 16 * (index as usize);
@@ -201,8 +166,5 @@ pub fn piece_at(plan: &[u8], target: Target, index: u32) -> Judged
 pub fn accepted_at(plan: &[u8], target: Target, index: u32) -> Piece
     ensures { row_is result ≡ row_of (piece_at (unit_of target) plan.now index) }
 {
-    match piece_at(plan, target, index) {
-        Judged::Good(piece) => piece,
-        Judged::Bad(_) => Piece::Run { address: 0 },
-    }
+    piece_at(plan, target, index).unwrap_or(Piece::Run { address: 0 })
 }

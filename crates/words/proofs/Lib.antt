@@ -6,5 +6,6 @@ pub mod EqualLaws
 pub mod FourLaws
 pub mod RangeLaws
 pub mod RoundLaws
+pub mod StdLaws
 pub mod StoreGrowing
 pub mod StoreLaws

@@ -1,4 +1,4 @@
--- Bytes, words, stores and ranges: definitions, and below each its laws.
+-- Bytes, words, stores and ranges: definitions. Their laws stand in proofs/.
 pub mod Choice
 pub mod Bytes
 pub mod Equal

@@ -5,7 +5,7 @@ ghost use Rattle.words.specs.Store.{store_if_fits};
 
 use crate::read::whole_le_word;
 
-#[derive(Clone, Copy)]
+#[derive(Debug, Clone, Copy, PartialEq, Eq)]
 pub struct Four {
     pub first: u32,
     pub second: u32,

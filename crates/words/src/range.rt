@@ -7,23 +7,18 @@ ghost use Rattle.words.specs.Round.{round_up};
 pub fn fits(a: usize, n: usize, end: usize) -> bool
     ensures { result ≡ leb (a + n) end }
 {
-    if a <= end { n <= end - a } else { false }
+    a <= end && n <= end - a
 }
 
 // Whether the n numbers from a on and the k numbers from b on share a number.
 pub fn share(a: u64, n: u64, b: u64, k: u64) -> bool
     ensures { result ≡ meets a n b k }
 {
-    if n == 0 {
-        return false;
-    }
-    if k == 0 {
-        return false;
-    }
     if a <= b {
-        return b - a < n;
+        k != 0 && b - a < n
+    } else {
+        n != 0 && a - b < k
     }
-    a - b < k
 }
 
 // The least multiple of 32 that is not below n.

@@ -1,9 +1,9 @@
 -- What the code of a packer, and of the reader of images, asks and answers, in the terms of the definitions.
-use Rattle.std.specs.Prelude.{◌≡◌, List, ℕ, ◌+◌, ◌%◌, ◌≤◌, length}
+use Rattle.std.specs.Prelude.{◌≡◌, List, ℕ, ◌+◌, ◌%◌, ◌≤◌, length, Result, Ok, Err}
+use Rattle.outcome.specs.declared.refusal.Refusal.{Refusal}
+use Rattle.outcome.specs.Refusal.{number_of}
 use Rattle.plan.specs.declared.piece.Piece as CodePiece
 use Rattle.plan.specs.declared.piece.Piece.TheVariants.{Put, Fill, Run}
-use Rattle.plan.specs.declared.packed.Answer as CodeAnswer
-use Rattle.plan.specs.declared.packed.Answer.TheVariants as answer
 use Rattle.plan.specs.Plan.{Piece, Read, pieces}
 use Rattle.plan.specs.Packed.{pieces_in, Outcome, refusal, sized}
 
@@ -26,6 +26,6 @@ pub record ImageFits (image : List Piece → List ℕ) (t : Read) (count n : ℕ
   pub few : count ≤ 64
   pub fits : length (image (pieces_in t)) ≤ n
 
-abbrev pub outcome_is : CodeAnswer.Answer → Outcome
-outcome_is (answer.Refused r) = refusal r.number r.place
-outcome_is (answer.Packed n) = sized n
+abbrev pub outcome_is : Result ℕ Refusal → Outcome
+outcome_is (Err r) = refusal (number_of r.cause) r.place
+outcome_is (Ok n) = sized n

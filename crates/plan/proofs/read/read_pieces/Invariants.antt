@@ -1,12 +1,8 @@
-use mathlib.Core.Path.{◌≡◌}
-use Prim.Native.Nat.{◌+◌, ◌-◌, ◌*◌, ◌≤◌}
+use Rattle.std.specs.Prelude.{◌≡◌, ◌+◌, ◌-◌, ◌*◌, ◌≤◌}
 use Rattle.plan.specs.Plan.{read_pieces}
 use Rattle.plan.specs.Code.{unit_of, outcome_of}
 use Rattle.plan.proofs.CodeCounting.{outcome_after}
 use Rattle.plan.proofs.read.read_pieces.Given as goal
 
 abbrev pub invariant-loop-i : goal.invariant-loop-i
-invariant-loop-i l = (outcome_after l.i l.puts l.fills (read_pieces (unit_of l.target) l.plan (l.count - l.i) l.i) ≡ outcome_of (read_pieces (unit_of l.target) l.plan l.count 0)) × ((l.puts + l.fills ≤ 65536 * l.i) × (l.i ≤ l.count))
-
-abbrev pub decreases-loop-i : goal.decreases-loop-i
-decreases-loop-i l = l.count - l.i
+invariant-loop-i l = (outcome_after l.i l.puts l.fills (read_pieces (unit_of l.target) l.plan (l.count - l.i) l.i) ≡ outcome_of (read_pieces (unit_of l.target) l.plan l.count 0)) × (l.puts + l.fills ≤ 65536 * l.i)

@@ -1,6 +1,6 @@
--- `words::put::be_word` meets its contract: the Little Endian bytes of the turned word are the Big Endian ones.
-use Rattle.words.proofs.BytesLaws.{little_endian-turned}
+-- `words::put::be_word` meets its contract: the bytes that the library makes are the definition's.
+use Rattle.words.proofs.StdLaws.{to-be-4}
 use Rattle.words.proofs.put.be_word.Goals as goal
 
 pub returns : goal.returns
-returns c = rw (c.word.ensures, little_endian-turned) at c.le_word.ensures
+returns c = rw (← to-be-4 c.args.n, ← c.to_be_bytes.ensures) c.bytes.ensures

@@ -1,17 +1,21 @@
 -- `words::range::share` meets its contract: the tests by differences are the tests by sums.
-use Rattle.words.proofs.RangeLaws.{meets-empty, meets-nothing, meets-upward, meets-downward}
-use mathlib.Core.Path.{sym}
-use native.Mathlib.Omega.{arith}
+use Rattle.std.proofs.Common.{arith}
+use Rattle.std.proofs.lemmas.Grind.{common_steps}
+use Rattle.words.specs.Range.{meets}
 use Rattle.words.proofs.range.share.Goals as goal
 
-pub returns-then-n-eq0 : goal.returns-then-n-eq0
-returns-then-n-eq0 c = let x = c.args in sym (meets-empty x.a x.n x.b x.k (omega arith))
+pub returns-then-k-ne0 : goal.returns-then-k-ne0
+unfolding meets
+returns-then-k-ne0 c = grind (arith, common_steps)
 
-pub returns-then-k-eq0 : goal.returns-then-k-eq0
-returns-then-k-eq0 c = let x = c.args in sym (meets-nothing x.a x.n x.b x.k (omega arith))
+pub returns-else-k-ne0 : goal.returns-else-k-ne0
+unfolding meets
+returns-else-k-ne0 c = grind (arith, common_steps)
 
-pub returns-then-a-b : goal.returns-then-a-b
-returns-then-a-b c = let x = c.args in sym (meets-upward x.a x.n x.b x.k (omega arith) (omega arith) (omega arith))
+pub returns-then-n-ne0 : goal.returns-then-n-ne0
+unfolding meets
+returns-then-n-ne0 c = grind (arith, common_steps)
 
-pub returns : goal.returns
-returns c = let x = c.args in sym (meets-downward x.a x.n x.b x.k (omega arith) (omega arith) (omega arith))
+pub returns-else-n-ne0 : goal.returns-else-n-ne0
+unfolding meets
+returns-else-n-ne0 c = grind (arith, common_steps)

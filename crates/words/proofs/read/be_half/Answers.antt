@@ -1,8 +1,9 @@
--- `words::read::be_half` meets its contract: the two bytes are the first two, reversed.
-use Rattle.words.proofs.BytesLaws.{first_two}
-use Rattle.words.specs.Bytes.{big_endian_at, from_big_endian}
+-- `words::read::be_half` meets its contract: the library reads the definition's bytes.
+use mathlib.Core.Path.{◌∙◌}
+use Rattle.words.specs.Bytes.{big_endian_at}
+use Rattle.words.proofs.StdLaws.{from-be-2}
 use Rattle.words.proofs.read.be_half.Goals as goal
 
 pub returns : goal.returns
-unfolding big_endian_at from_big_endian
-returns c = simp (first_two, c.number_of_two.ensures, c.byte_at-2.ensures, c.byte_at.ensures)
+unfolding big_endian_at
+returns c = rw c.first.ensures at c.from_be_bytes.ensures ∙ from-be-2 c.args.s.now

@@ -1,8 +1,9 @@
--- `words::read::le_half` meets its contract: the two bytes are the first two.
-use Rattle.words.proofs.BytesLaws.{first_two}
+-- `words::read::le_half` meets its contract: the library reads the definition's bytes.
+use mathlib.Core.Path.{◌∙◌}
 use Rattle.words.specs.Bytes.{little_endian_at}
+use Rattle.words.proofs.StdLaws.{from-le-2}
 use Rattle.words.proofs.read.le_half.Goals as goal
 
 pub returns : goal.returns
 unfolding little_endian_at
-returns c = simp (first_two, c.number_of_two.ensures, c.byte_at-2.ensures, c.byte_at.ensures)
+returns c = rw c.first.ensures at c.from_le_bytes.ensures ∙ from-le-2 c.args.s.now

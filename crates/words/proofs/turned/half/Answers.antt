@@ -1,8 +1,7 @@
--- `words::turned::half` meets its contract: the two bytes, highest first, are taken lowest first.
-use Rattle.words.specs.Bytes.{big_endian}
-use Rattle.words.proofs.BytesLaws.{halfword-bytes}
+-- `words::turned::half` meets its contract: the library's swap is the definition's.
+use mathlib.Core.Path.{◌∙◌}
+use Rattle.words.proofs.StdLaws.{swap-2}
 use Rattle.words.proofs.turned.half.Goals as goal
 
 pub returns : goal.returns
-unfolding big_endian
-returns c = rw halfword-bytes c.number_of_two.ensures
+returns c = c.swap_bytes.ensures ∙ swap-2 c.args.n

@@ -1,8 +1,7 @@
--- `words::turned::word` meets its contract: the four bytes, highest first, are taken lowest first.
-use Rattle.words.specs.Bytes.{big_endian}
-use Rattle.words.proofs.BytesLaws.{word_bytes}
+-- `words::turned::word` meets its contract: the library's swap is the definition's.
+use mathlib.Core.Path.{◌∙◌}
+use Rattle.words.proofs.StdLaws.{swap-4}
 use Rattle.words.proofs.turned.word.Goals as goal
 
 pub returns : goal.returns
-unfolding big_endian
-returns c = rw word_bytes c.number_of_four.ensures
+returns c = c.swap_bytes.ensures ∙ swap-4 c.args.n

@@ -1,19 +1,27 @@
--- `memory_map::map::Map::lookup` meets its contract: the loop's invariant: lookup in the regions from `i` on gives what lookup in all gives.
-use mathlib.Core.Path.{ap, sym, ◌∙◌}
-use native.Mathlib.Omega.{arith}
+-- `memory_map::map::Map::lookup` meets its contract: the loop's invariant: lookup in the regions from the index on gives what lookup in all gives.
+use Rattle.std.proofs.Common.{◌≡◌, List, sym, ◌∙◌, ap, arith}
+use Rattle.memory_region.specs.declared.region.Region.{Region}
+use Rattle.memory_map.specs.Lookup.{at, lookup, lookup_in, lookup-computes}
 use Rattle.memory_map.proofs.Loops.{search-hits, search-goes, search-end}
-use Rattle.memory_map.specs.Lookup.{lookup-computes}
-use Rattle.memory_map.specs.Lookup.{at}
 use Rattle.memory_map.proofs.map.Map.lookup.Goals as goal
 
-pub loop-i-init : goal.loop-i-init
-loop-i-init c = let x = c.args in sym (lookup-computes x.self x.right x.address x.length)
-
 pub returns-then-permits : goal.returns-then-permits
-returns-then-permits c = let s = c in let x = s.args in ap at c.place_of.ensures ∙ sym (search-hits x.self s.loop-i.i x.right x.address x.length (omega arith) (sym c.permits.ensures ∙ c.if-permits.true)) ∙ s.loop-i.invariant
+returns-then-permits c = let x = c.args in
+    let l = c.in_use-region-items.result.now in
+    let all : lookup_in l x.right x.address x.length ≡ lookup x.self x.right x.address x.length =
+    ap (λ (m : List Region). lookup_in m x.right x.address x.length) c.in_use-region-items.ensures ∙ sym (lookup-computes x.self x.right x.address x.length) in
+    ap at c.place_of.ensures
+    ∙ sym (search-hits l c.loop-region.region-index _ x.right x.address x.length c.loop-region-test.true (sym c.permits.ensures ∙ c.if-permits.true)) ∙ c.loop-region.invariant
+    ∙ all
 
-pub loop-i-preserved : goal.loop-i-preserved
-loop-i-preserved c = let s = c in let x = s.args in sym (search-goes x.self s.loop-i.i x.right x.address x.length (omega arith) (sym c.permits.ensures ∙ c.if-permits.false)) ∙ s.loop-i.invariant
+pub loop-region-preserved : goal.loop-region-preserved
+loop-region-preserved c = let x = c.args in
+    sym (search-goes c.in_use-region-items.result.now c.loop-region.region-index _ x.right x.address x.length c.loop-region-test.true (sym c.permits.ensures ∙ c.if-permits.false))
+    ∙ c.loop-region.invariant
 
 pub returns : goal.returns
-returns c = let s = c in let x = s.args in sym (search-end x.self s.loop-i.i x.right x.address x.length (omega arith)) ∙ s.loop-i.invariant
+returns c = let x = c.args in
+    let l = c.in_use-region-items.result.now in
+    let all : lookup_in l x.right x.address x.length ≡ lookup x.self x.right x.address x.length =
+    ap (λ (m : List Region). lookup_in m x.right x.address x.length) c.in_use-region-items.ensures ∙ sym (lookup-computes x.self x.right x.address x.length) in
+    sym (search-end l c.loop-region.region-index (omega arith) x.right x.address x.length) ∙ c.loop-region.invariant ∙ all
