@@ -8,10 +8,10 @@ ghost use Rattle.compare.specs.Code.Collected.{Collected};
 
 use crate::block::block_at;
 use crate::listing::Listing;
-use crate::reading::{ADDRESSES, Reading, read};
+use crate::reading::{ADDRESSES, read};
 use crate::run::stretch_of;
 use crate::sides::{Sources, sources_at};
-use outcome::answer::{OUTPUT_TOO_SMALL, Refusal};
+use outcome::refusal::{Cause, Refusal};
 
 // The stretches that an answer has at most, the bytes of a stretch, and those of an output that holds them.
 pub const MOST_STRETCHES: usize = 512;
@@ -23,21 +23,25 @@ pub const OUTPUT_SIZE: usize = STRETCH_SIZE * MOST_STRETCHES;
 // The value that stands for a byte that is not stored.
 pub const NOT_STORED: u32 = 256;
 
-const TOO_MANY_STRETCHES: u32 = 18;
-
 // The plan that a refusal is about.
 #[derive(Clone, Copy, Debug, PartialEq, Eq)]
-pub enum Which {
-    Neither,
+pub enum Side {
     Old,
     New,
 }
 
-// The number of stretches and whether the runs are the same; or a refusal.
-#[derive(Clone, Copy)]
-pub enum Compared {
-    Found { count: usize, same_run: bool },
-    Refused { which: Which, refusal: Refusal },
+// The number of stretches, and whether the runs are the same.
+#[derive(Clone, Copy, Debug, PartialEq, Eq)]
+pub struct Found {
+    pub count: usize,
+    pub same_run: bool,
+}
+
+// A refusal, and the plan that it is about, if it is about one.
+#[derive(Clone, Copy, Debug, PartialEq, Eq)]
+pub struct Refused {
+    pub which: Option<Side>,
+    pub refusal: Refusal,
 }
 
 // Lists what differs from an address on, up to the end of the sources.
@@ -79,7 +83,7 @@ fn compare_pieces(
     old_count: u32,
     new_count: u32,
     output: &mut [u8],
-) -> Compared
+) -> Result<Found, Refused>
     requires { Comparable old.now old_count × Comparable new.now new_count × (stretch_size * most_stretches ≤ length output.old) }
     ensures result_value { outcome_is result ≡ outcome_of (compared_below addresses (read_as old.now) (read_as new.now)) }
     ensures output_after { output.new ≡ output_after (compared_below addresses (read_as old.now) (read_as new.now)) output.old }
@@ -89,56 +93,37 @@ fn compare_pieces(
     let mut listing = Listing::new();
     collect(old, new, old_stretch.count, new_stretch.count, &mut listing);
     if listing.count > MOST_STRETCHES {
-        return Compared::Refused {
-            which: Which::Neither,
-            refusal: Refusal {
-                number: TOO_MANY_STRETCHES,
-                place: MOST_STRETCHES,
-            },
-        };
+        return Err(Refused {
+            which: None,
+            refusal: Cause::TooManyStretches.at(MOST_STRETCHES),
+        });
     }
     listing.put(output);
-    Compared::Found {
+    Ok(Found {
         count: listing.count,
         same_run: old_stretch.run == new_stretch.run,
-    }
-}
-
-// The new plan, after the old one was read.
-fn compare_new(old: &[u8], new: &[u8], old_count: u32, output: &mut [u8]) -> Compared
-    requires { Comparable old.now old_count × (stretch_size * most_stretches ≤ length output.old) }
-    ensures result_value { outcome_is result ≡ outcome_of (compared_below addresses (read_as old.now) (read_compared new.now)) }
-    ensures output_after { output.new ≡ output_after (compared_below addresses (read_as old.now) (read_compared new.now)) output.old }
-{
-    match read(new) {
-        Reading::Refused(refusal) => Compared::Refused {
-            which: Which::New,
-            refusal,
-        },
-        Reading::Pieces { count } => compare_pieces(old, new, old_count, count, output),
-    }
+    })
 }
 
 // The addresses at which the stretches from index 0 of two plans differ. Each stretch is four Little Endian words at the output's front:
 // first and last address, old and new byte at the first; 256 where it is not stored. The output behind them is left as it was.
-pub fn compare(old: &[u8], new: &[u8], output: &mut [u8]) -> Compared
+pub fn compare(old: &[u8], new: &[u8], output: &mut [u8]) -> Result<Found, Refused>
     ensures result_value { outcome_is result ≡ outcome_of (compared (length output.old) old.now new.now) }
     ensures output_after { output.new ≡ output_after (compared (length output.old) old.now new.now) output.old }
 {
     if output.len() < OUTPUT_SIZE {
-        return Compared::Refused {
-            which: Which::Neither,
-            refusal: Refusal {
-                number: OUTPUT_TOO_SMALL,
-                place: 0,
-            },
-        };
+        return Err(Refused {
+            which: None,
+            refusal: Cause::OutputTooSmall.at(0),
+        });
     }
-    match read(old) {
-        Reading::Refused(refusal) => Compared::Refused {
-            which: Which::Old,
-            refusal,
-        },
-        Reading::Pieces { count } => compare_new(old, new, count, output),
-    }
+    let old_count = read(old).map_err(|refusal| Refused {
+        which: Some(Side::Old),
+        refusal,
+    })?;
+    let new_count = read(new).map_err(|refusal| Refused {
+        which: Some(Side::New),
+        refusal,
+    })?;
+    compare_pieces(old, new, old_count, new_count, output)
 }

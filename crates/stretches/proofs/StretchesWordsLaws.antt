@@ -1,13 +1,12 @@
 -- Laws of a list of stretches as words.
-use Rattle.std.specs.Prelude.{◌≡◌, refl, ℕ, suc, ◌+◌, ◌-◌, ◌*◌, ◌≤◌, ◌<◌, take, drop, get_or, set}
+use Rattle.std.specs.Prelude.{◌≡◌, refl, ℕ, suc, ◌+◌, ◌-◌, ◌*◌, ◌<◌, get_or, set}
 use Rattle.std.proofs.Math.Path.{ap}
 use Rattle.std.proofs.Common.{sym, ◌∙◌, length-append, get_or-take, eq-eqb, ne_eqb}
-use mathlib.Core.List.{List, [], ◌∷◌, ◌++◌, append_assoc}
+use mathlib.Core.List.{List, [], ◌∷◌, ◌++◌}
 use native.Mathlib.Omega.{arith}
 use Rattle.std.proofs.Math.ListN.{length, length-set}
 use Rattle.std.proofs.lemmas.List.{take_more_set}
-use Rattle.std.proofs.Math.Seq.{length-take-le, take_at, take-set-lt}
-use Rattle.words.specs.Store.{store}
+use Rattle.std.proofs.Math.Seq.{take-set-lt}
 use Rattle.stretches.specs.Stretches.{Stretch, up_to, add, below}
 use Rattle.stretches.specs.Stretches.Words.{words_of, last_word, Listing}
 

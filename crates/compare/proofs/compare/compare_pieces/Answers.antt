@@ -31,7 +31,7 @@ module _ (s : Start) where
 
 pub returns-then-listing-gt-MOST_STRETCHES : goal.returns-then-listing-gt-MOST_STRETCHES
 returns-then-listing-gt-MOST_STRETCHES c = let s = c in
-    let a = answered _ _ s.args.output.now (sym (both_read addresses (old (goal.at.returns-then-listing-gt-MOST_STRETCHES c).Start) (new (goal.at.returns-then-listing-gt-MOST_STRETCHES c).Start) ∙ limited-more (stretches (goal.at.returns-then-listing-gt-MOST_STRETCHES c).Start) (same (goal.at.returns-then-listing-gt-MOST_STRETCHES c).Start) (c.collect.ensures.many (omega arith)))) in record { result_value = a.0; output_after = a.1 }
+    let a = answered _ _ s.args.output.now (sym (both_read addresses (old (goal.at.returns-then-listing-gt-MOST_STRETCHES c).Start) (new (goal.at.returns-then-listing-gt-MOST_STRETCHES c).Start) ∙ limited-more (stretches (goal.at.returns-then-listing-gt-MOST_STRETCHES c).Start) (same (goal.at.returns-then-listing-gt-MOST_STRETCHES c).Start) (c.collect.ensures.many (omega arith)))) in rw c.at.ensures (record { result_value = a.0; output_after = a.1 })
 
 pub returns : goal.returns
 returns c = let d = c in
