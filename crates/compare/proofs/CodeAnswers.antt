@@ -1,5 +1,6 @@
 -- Laws of what is read and answered, a step of the code at a time.
-use Rattle.std.specs.Prelude.{◌≡◌, Bool, true, false, List, [], ◌∷◌, ℕ, ◌+◌, ◌*◌, ◌≤◌, ◌<◌, ltb, length, if◌then◌else◌}
+use Rattle.std.specs.Prelude.{◌≡◌, Bool, true, false, List, [], ◌∷◌, ℕ, ◌+◌, ◌*◌, ◌≤◌, ◌<◌, ltb, length, if◌then◌else◌, eqb, Option, None, Some}
+use Rattle.std.specs.Option.{option_eq}
 use Rattle.std.proofs.Math.Path.{refl}
 use Rattle.std.proofs.Common.{ap, zero-add, add-zero, arith, lt-ltb, le-ltb, ltb-false}
 use Rattle.plan.specs.declared.piece.Piece as CodePiece
@@ -7,11 +8,11 @@ use Rattle.plan.specs.declared.piece.Piece.TheVariants as code
 use Rattle.plan.specs.Plan.{Piece, Read, refused, pieces, before}
 use Rattle.plan.specs.Code.{piece_is}
 use Rattle.stretches.specs.Stretches.{Stretch}
-use Rattle.compare.specs.Reading.{addresses, read_compared, run_of, same_run}
+use Rattle.compare.specs.Reading.{addresses, read_compared, none, run_of, same_run}
 use Rattle.compare.proofs.ReadingLaws.{readable}
 use Rattle.compare.specs.Reading.Stretch.{run_at}
 use Rattle.compare.specs.Compare.{neither, old_plan, new_plan, Compared, refuses, finds, most_stretches, stretch_size, differences, limited, compared_below, compared, output_after}
-use Rattle.compare.specs.Code.{outcome_of, stretch_count, Reading, fails, reads, reading_of, Comparable}
+use Rattle.compare.specs.Code.{outcome_of, stretch_count, Reading, fails, reads, reading_of, run_is, Comparable}
 
 -- ---- a loop that counts pieces while they are read
 -- what is read, where r follows n pieces
@@ -36,6 +37,19 @@ pub run-anywhere : (s t : List ℕ) (p : CodePiece.Piece) → run_at (piece_is s
 run-anywhere s t (code.Put a o n) = refl
 run-anywhere s t (code.Fill a n w) = refl
 run-anywhere s t (code.Run a) = refl
+
+-- of a piece that is no run
+pub run-none : (s : List ℕ) (p : CodePiece.Piece) → ((a : ℕ) → p ≡ code.Run a → ⊥) → run_at (piece_is s p) ≡ none
+run-none s (code.Put a o n) h = refl
+run-none s (code.Fill a n w) h = refl
+run-none s (code.Run a) h = absurd (h a refl)
+
+-- runs are compared as the code's addresses are
+pub same-run : (a b : Option ℕ) → option_eq eqb a b ≡ same_run (run_is a) (run_is b)
+same-run None None = refl
+same-run None (Some b) = refl
+same-run (Some a) None = refl
+same-run (Some a) (Some b) = refl
 
 pub comparable : (s : List ℕ) {n : ℕ} → reading_of (read_compared s) ≡ reads n → Comparable s n
 comparable s {n} e = go (read_compared s) refl e

@@ -57,8 +57,14 @@ pub fill-byte : (a n w x : ℕ) → a ≤ x → x < a + n → get_or (little_end
 unfolding stored_by
 fill-byte a n w x h g = sym (filling-byte n w (x - a) (omega arith))
 
+-- 68 bytes of a repeated word, of which 64 from byte p on are used again and again
+pub row-byte : (w p k : ℕ) → p < 4 → get_or (filling 68 w) (p + k % 64) 0 ≡ get_or (little_endian 4 w) ((p + k) % 4) 0
+row-byte w p k h =
+    let z : (p + k % 64) % 4 ≡ (p + k) % 4 = omega arith in
+    filling-byte 68 w (p + k % 64) (omega arith) ∙ ap (λ (j : ℕ). get_or (little_endian 4 w) j 0) z
+
 -- counted from an address c of the fill, whose word's byte there is p
-pub fill-at : (s : List ℕ) (q : CodeSource.Source) (a n w c e p x : ℕ) → q ≡ Fill a n w → p ≡ (c - a) % 4 → Reaches s q c e → c ≤ x → x < e
+pub fill-at : (s : List ℕ) (q : CodeSource.Source) (a n w c e p x : ℕ) → q ≡ Fill a n w → p % 4 ≡ (c - a) % 4 → Reaches s q c e → c ≤ x → x < e
     → source_byte (source_is s q) x ≡ get_or (little_endian 4 w) ((p + (x - c)) % 4) 0
 fill-at s q a n w c e p x f u r k g =
     let i = rw f at r in
@@ -83,6 +89,12 @@ beq_same true true e = refl
 beq_same true false e = true-is-false e
 beq_same false true e = true-is-false e
 beq_same false false e = refl
+
+pub beq-true : (a b : Bool) → beq a b ≡ true → a ≡ b
+beq-true true true e = refl
+beq-true true false e = true-is-false (sym e)
+beq-true false true e = true-is-false (sym e)
+beq-true false false e = refl
 
 pub equal-pairs : {a b c d : ℕ} → a ≡ c → b ≡ d → eqb a b ≡ eqb c d
 equal-pairs {a} {b} {c} {d} e f = ap (λ (k : ℕ). eqb k b) e ∙ ap (eqb c) f

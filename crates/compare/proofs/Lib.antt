@@ -9,5 +9,6 @@ pub mod CompareOutput
 pub mod CompareSmall
 pub mod LastByteExact
 pub mod LastByteMeaning
+pub mod ListedLaws
 pub mod ReadingBytes
 pub mod ReadingLaws

@@ -2,18 +2,18 @@
 pub mod Segment
 pub mod Block
 pub mod Collected
-use Rattle.std.specs.Prelude.{◌≡◌, Bool, List, ℕ, ◌+◌, ◌*◌, ◌≤◌, ◌<◌, eqb, length}
+pub mod Listed
+pub mod Pairs
+use Rattle.std.specs.Prelude.{◌≡◌, Bool, List, ℕ, ◌+◌, ◌*◌, ◌≤◌, ◌<◌, eqb, length, Option, None, Some, Result, Ok, Err}
 use Rattle.plan.specs.Plan.{Read, refused, pieces}
 use Rattle.plan.specs.Packed.{plan_pieces, Accepted}
 use Rattle.plan.specs.Meaning.{stretch}
-use Rattle.compare.specs.declared.compare.Which as CodeWhich
-use Rattle.compare.specs.declared.compare.Which.TheVariants as which
-use Rattle.compare.specs.declared.compare.Compared as CodeCompared
-use Rattle.compare.specs.declared.compare.Compared.TheVariants as answer
-use Rattle.compare.specs.declared.reading.Reading as CodeReading
-use Rattle.compare.specs.declared.reading.Reading.TheVariants as reading
-use Rattle.compare.specs.declared.run.Run as CodeRun
-use Rattle.compare.specs.declared.run.Run.TheVariants as runs
+use Rattle.outcome.specs.declared.refusal.Refusal.{Refusal}
+use Rattle.outcome.specs.Refusal.{number_of}
+use Rattle.compare.specs.declared.compare.Side as CodeSide
+use Rattle.compare.specs.declared.compare.Side.TheVariants as side
+use Rattle.compare.specs.declared.compare.Found.{Found}
+use Rattle.compare.specs.declared.compare.Refused.{Refused}
 use Rattle.compare.specs.LastByte.{last_byte}
 use Rattle.compare.specs.Reading.{read_compared, Run, none, at}
 use Rattle.compare.specs.Compare.{Which, neither, old_plan, new_plan, Compared, refuses, finds, most_stretches}
@@ -32,14 +32,14 @@ abbrev pub stretch_count : Outcome → ℕ
 stretch_count (refusal w x i) = 0
 stretch_count (found n same) = n
 
-abbrev pub which_is : CodeWhich.Which → Which
-which_is which.Neither = neither
-which_is which.Old = old_plan
-which_is which.New = new_plan
+abbrev pub which_is : Option CodeSide.Side → Which
+which_is None = neither
+which_is (Some side.Old) = old_plan
+which_is (Some side.New) = new_plan
 
-abbrev pub outcome_is : CodeCompared.Compared → Outcome
-outcome_is (answer.Refused w r) = refusal (which_is w) r.number r.place
-outcome_is (answer.Found n same) = found n same
+abbrev pub outcome_is : Result Found Refused → Outcome
+outcome_is (Err r) = refusal (which_is r.which) (number_of r.refusal.cause) r.refusal.place
+outcome_is (Ok f) = found f.count f.same_run
 
 -- ---- a plan that is read: a refusal, or the number of pieces
 pub data Reading : Type 0 where
@@ -50,14 +50,14 @@ abbrev pub reading_of : Read → Reading
 reading_of (refused x i) = fails x i
 reading_of (pieces ps) = reads (length ps)
 
-abbrev pub reading_is : CodeReading.Reading → Reading
-reading_is (reading.Refused r) = fails r.number r.place
-reading_is (reading.Pieces k) = reads k
+abbrev pub reading_is : Result ℕ Refusal → Reading
+reading_is (Err r) = fails (number_of r.cause) r.place
+reading_is (Ok k) = reads k
 
 -- ---- runs
-abbrev pub run_is : CodeRun.Run → Run
-run_is runs.None = none
-run_is (runs.At a) = at a
+abbrev pub run_is : Option ℕ → Run
+run_is None = none
+run_is (Some a) = at a
 
 -- ---- plans that are compared
 -- a plan of n pieces that can be
@@ -69,10 +69,6 @@ pub record Comparable (s : List ℕ) (n : ℕ) : Type 0 where
 -- an accepted plan, and the number of pieces of its stretch from index 0
 abbrev pub Whole : List ℕ → ℕ → Type 0
 Whole s n = Accepted 1 s × (n ≡ length (stretch (plan_pieces 1 s)))
-
--- the words of a list that holds one stretch more than an answer has at most
-abbrev pub list_words : ℕ
-list_words = 4 * (most_stretches + 1)
 
 -- what was read of an accepted plan
 abbrev pub read_as : List ℕ → Read

@@ -1,121 +1,39 @@
 // Blocks of addresses that differ alike.
-ghost use Rattle.std.specs.Prelude.{◌≡◌, ◌&&◌, ◌+◌, ◌-◌, ◌%◌, ◌≤◌, ◌<◌, eqb, length, get_or};
-ghost use Rattle.words.specs.Bytes.{little_endian};
+ghost use Rattle.std.specs.Prelude.{◌≡◌, ◌&&◌, ◌≤◌, ◌<◌, eqb};
+ghost use Rattle.word_blocks.specs.Repeat.{filling};
 ghost use Rattle.compare.specs.Code.{image_of, Alike};
 ghost use Rattle.compare.specs.Code.Segment.{given_by, stored, Reaches};
 ghost use Rattle.compare.specs.Code.Block.{Sides};
 
-use crate::pairs::{alike, alike_fill, alike_fills};
-use crate::segment::{Source, byte_at};
+use crate::pairs::alike;
+use crate::segment::{Source, byte_at, fill_byte};
 use crate::sides::Sources;
 
 // The address behind a block, and the last bytes at its first address, or what stands for one that is not stored.
-#[derive(Clone, Copy)]
+#[derive(Clone, Copy, Debug, PartialEq, Eq)]
 pub(crate) struct Block {
     pub end: u64,
     pub old: u32,
     pub new: u32,
 }
 
-// Whether there is a source.
-fn stores(source: Source) -> bool
-    ensures { result ≡ stored source }
-{
-    match source {
-        Source::Nothing => false,
-        Source::Put {
-            address: _,
-            from: _,
-            length: _,
-        } => true,
-        Source::Fill {
-            address: _,
-            length: _,
-            word: _,
-        } => true,
-    }
-}
-
 fn both_store(old: Source, new: Source) -> bool
     ensures { result ≡ (stored old && stored new) }
 {
-    if stores(old) { stores(new) } else { false }
+    !matches!(old, Source::Nothing) && !matches!(new, Source::Nothing)
 }
 
-// The first address from `at` on and below `end` at which the two last bytes are equal, or are not, other than asked; or `end`. Of an old
-// put, whose data stands in the plan from an offset on.
-fn until_put(
-    old: &[u8],
-    new: &[u8],
-    from: usize,
-    new_source: Source,
-    at: u64,
-    end: u64,
-    same: bool,
-) -> u64
-    requires { (from + (end - at) ≤ length old.now) × Reaches new.now new_source at end × (at ≤ end) }
-    ensures lower_bound { (at ≤ result) × (result ≤ end) }
-    ensures alike { Alike (λ x. get_or old.now (from + (x - at)) 0) (given_by new.now new_source) at result same }
+// The bytes of a word in a row, 64 from any of the first four on.
+fn row_of(word: u32) -> [u8; 68]
+    ensures { result ≡ filling 68 word }
 {
-    let size = (end - at) as usize;
-    match new_source {
-        Source::Nothing => at,
-        Source::Put {
-            address,
-            from: new_from,
-            length: _,
-        } => {
-            let new_offset = new_from + (at - address as u64) as usize;
-            at + alike(old, new, from, new_offset, size, same) as u64
-        }
-        Source::Fill {
-            address,
-            length: _,
-            word,
-        } => {
-            let phase = ((at - address as u64) % 4) as usize;
-            at + alike_fill(old, word, from, phase, size, same) as u64
-        }
-    }
+    let mut row = [0u8; 68];
+    word_blocks::fill::fill(&mut row, word);
+    row
 }
 
-// The same of an old fill, from one of its word's bytes on.
-fn until_fill(
-    new: &[u8],
-    word: u32,
-    phase: u64,
-    new_source: Source,
-    at: u64,
-    end: u64,
-    same: bool,
-) -> u64
-    requires { (phase < 4) × Reaches new.now new_source at end × (at ≤ end) }
-    ensures lower_bound { (at ≤ result) × (result ≤ end) }
-    ensures alike { Alike (λ x. get_or (little_endian 4 word) ((phase + (x - at)) % 4) 0) (given_by new.now new_source) at result same }
-{
-    let size = (end - at) as usize;
-    match new_source {
-        Source::Nothing => at,
-        Source::Put {
-            address,
-            from,
-            length: _,
-        } => {
-            let offset = from + (at - address as u64) as usize;
-            at + alike_fill(new, word, offset, phase as usize, size, same) as u64
-        }
-        Source::Fill {
-            address,
-            length: _,
-            word: new_word,
-        } => {
-            let new_phase = (at - address as u64) % 4;
-            at + alike_fills(word, new_word, phase, new_phase, size, same) as u64
-        }
-    }
-}
-
-// The same of any source.
+// The first address from `at` on and below `end` at which the two last bytes are equal, or are not, other than asked; or `end`. Of a fill
+// 68 of its bytes are laid out, 64 from any of the word's bytes on; of two fills four pairs tell all.
 fn until(
     old: &[u8],
     new: &[u8],
@@ -129,24 +47,65 @@ fn until(
     ensures lower_bound { (at ≤ result) × (result ≤ end) }
     ensures alike { Alike (given_by old.now old_source) (given_by new.now new_source) at result same }
 {
-    match old_source {
-        Source::Nothing => at,
-        Source::Put {
-            address,
-            from,
-            length: _,
-        } => {
-            let offset = from + (at - address as u64) as usize;
-            until_put(old, new, offset, new_source, at, end, same)
+    let size = (end - at) as usize;
+    match (old_source, new_source) {
+        (
+            Source::Put { address, from, .. },
+            Source::Put {
+                address: new_address,
+                from: new_from,
+                ..
+            },
+        ) => {
+            let old_at = from + (at - address as u64) as usize;
+            let new_at = new_from + (at - new_address as u64) as usize;
+            at + alike(|k| old[old_at + k], |k| new[new_at + k], size, same) as u64
         }
-        Source::Fill {
-            address,
-            length: _,
-            word,
-        } => {
-            let phase = (at - address as u64) % 4;
-            until_fill(new, word, phase, new_source, at, end, same)
+        (
+            Source::Put { address, from, .. },
+            Source::Fill {
+                address: new_address,
+                word,
+                ..
+            },
+        ) => {
+            let old_at = from + (at - address as u64) as usize;
+            let phase = ((at - new_address as u64) % 4) as usize;
+            let row = row_of(word);
+            at + alike(|k| old[old_at + k], |k| row[phase + k % 64], size, same) as u64
         }
+        (
+            Source::Fill { address, word, .. },
+            Source::Put {
+                address: new_address,
+                from,
+                ..
+            },
+        ) => {
+            let phase = ((at - address as u64) % 4) as usize;
+            let new_at = from + (at - new_address as u64) as usize;
+            let row = row_of(word);
+            at + alike(|k| row[phase + k % 64], |k| new[new_at + k], size, same) as u64
+        }
+        (
+            Source::Fill { address, word, .. },
+            Source::Fill {
+                address: new_address,
+                word: new_word,
+                ..
+            },
+        ) => {
+            let phase = at - address as u64;
+            let new_phase = at - new_address as u64;
+            let count = alike(
+                |k| fill_byte(word, phase + k as u64),
+                |k| fill_byte(new_word, new_phase + k as u64),
+                size.min(4),
+                same,
+            );
+            if count < 4 { at + count as u64 } else { end }
+        }
+        _ => at,
     }
 }
 

@@ -1,93 +1,104 @@
-// The list of stretches, four words each.
-ghost use Rattle.std.specs.Prelude.{◌≡◌, ◌&&◌, List, [], ◌∷◌, ◌+◌, ◌-◌, ◌*◌, ◌≤◌, ◌<◌, ltb, eqb, length, get_or};
+// The list of stretches.
+ghost use Rattle.std.specs.Prelude.{◌≡◌, ◌&&◌, List, ◌+◌, ◌*◌, ◌≤◌, ◌<◌, ltb, eqb, length};
 ghost use Rattle.words.specs.Store.{store};
-ghost use Rattle.stretches.specs.Stretches.{Stretch};
 ghost use Rattle.stretches.specs.Stretches as definition;
-ghost use Rattle.stretches.specs.Stretches.Words.{Listing};
 ghost use Rattle.compare.specs.Reading.{addresses};
+ghost use Rattle.compare.specs.Code.Listed.{stretch_is, last_listed, Listed};
 ghost use Rattle.compare.specs.Code.Collected.{with_block};
 ghost use Rattle.compare.specs.Compare.{most_stretches, stretch_size, stretch_bytes};
 
 use crate::block::Block;
 use crate::compare::{MOST_STRETCHES, STRETCH_SIZE};
 
-// Words of a stretch.
-const STRETCH_WORDS: usize = 4;
+// One stretch more than an answer has at most, so that one more can always be added.
+const ROOM: usize = MOST_STRETCHES + 1;
 
-// The words of a list: those of one stretch more than an answer has at most, so that one more can always be added.
-pub(crate) const WORDS: usize = STRETCH_WORDS * (MOST_STRETCHES + 1);
+// Addresses at which two plans differ: the first and the last, and the old and the new byte at the first.
+#[derive(Clone, Copy, Debug, PartialEq, Eq)]
+pub(crate) struct Stretch {
+    pub first: u32,
+    pub last: u32,
+    pub old: u32,
+    pub new: u32,
+}
 
-// Whether the last of `count` stretches ends just before an address.
-fn adjoins(words: &[u32], count: usize, first: u32) -> bool
-    requires { 4 * count ≤ length words.now }
-    ensures { result ≡ (ltb 0 count && eqb (get_or words.now (4 * count - 3) 0 + 1) first) }
-{
-    if count == 0 {
-        return false;
+// The first `count` stretches are listed.
+#[derive(Clone, Copy)]
+pub(crate) struct Listing {
+    pub stretches: [Stretch; ROOM],
+    pub count: usize,
+}
+
+impl Listing {
+    // None yet.
+    pub(crate) fn new() -> Listing
+        ensures { result.count ≡ 0 }
+    {
+        let none = Stretch {
+            first: 0,
+            last: 0,
+            old: 0,
+            new: 0,
+        };
+        Listing {
+            stretches: [none; ROOM],
+            count: 0,
+        }
     }
-    words[STRETCH_WORDS * count - 3] as u64 + 1 == first as u64
-}
 
-fn append(words: &mut [u32], count: usize, first: u32, last: u32, old: u32, new: u32)
-    requires { 4 * count + 4 ≤ length words.old }
-    ensures { words.new ≡ store words.old (4 * count) (first ∷ last ∷ old ∷ new ∷ []) }
-{
-    let at = STRETCH_WORDS * count;
-    words[at] = first;
-    words[at + 1] = last;
-    words[at + 2] = old;
-    words[at + 3] = new;
-}
-
-// One stretch more; answers how many there are.
-fn add(words: &mut [u32], count: usize, first: u32, last: u32, old: u32, new: u32) -> usize
-    requires { 4 * count + 4 ≤ length words.old }
-    ensures listing { (l : List Stretch) → Listing count words.old l → Listing result words.new (definition.add (record { first = first; last = last; old = old; new = new }) l) }
-    ensures upper_bound { result ≤ count + 1 }
-{
-    if adjoins(words, count, first) {
-        words[STRETCH_WORDS * count - 3] = last;
-        return count;
+    // Whether the last stretch ends just before an address.
+    fn ends_before(&self, address: u32) -> bool
+        requires { self.now.count ≤ most_stretches }
+        ensures { result ≡ (ltb 0 self.now.count && eqb ((last_listed self.now).last + 1) address) }
+    {
+        self.count > 0 && self.stretches[self.count - 1].last as u64 + 1 == address as u64
     }
-    append(words, count, first, last, old, new);
-    count + 1
-}
 
-// The list with the block of addresses that begins at `at`; answers how many stretches there are.
-pub(crate) fn add_block(words: &mut [u32], count: usize, at: u64, block: Block) -> usize
-    requires { (4 * count + 4 ≤ length words.old) × (at < block.end) × (block.end ≤ addresses) }
-    ensures listing { (l : List Stretch) → Listing count words.old l → Listing result words.new (with_block at block l) }
-    ensures upper_bound { result ≤ count + 1 }
-{
-    if block.old == block.new {
-        return count;
+    // One stretch more.
+    fn add(&mut self, stretch: Stretch)
+        requires { self.old.count ≤ most_stretches }
+        ensures listing { (l : List definition.Stretch) → Listed self.old l → Listed self.new (definition.add (stretch_is stretch) l) }
+        ensures upper_bound { self.new.count ≤ self.old.count + 1 }
+    {
+        if self.ends_before(stretch.first) {
+            self.stretches[self.count - 1].last = stretch.last;
+        } else {
+            self.stretches[self.count] = stretch;
+            self.count += 1;
+        }
     }
-    add(
-        words,
-        count,
-        at as u32,
-        (block.end - 1) as u32,
-        block.old,
-        block.new,
-    )
-}
 
-// The first `count` stretches, at the output's front.
-pub(crate) fn put_stretches(output: &mut [u8], words: &[u32; WORDS], count: usize)
-    requires { (stretch_size * most_stretches ≤ length output.old) × (count ≤ most_stretches) }
-    ensures { (l : List Stretch) → Listing count words.now l → output.new ≡ store output.old 0 (stretch_bytes l) }
-{
-    let mut i: usize = 0;
-    while i < count {
-        let at = STRETCH_WORDS * i;
-        words::four::put(
-            output,
-            STRETCH_SIZE * i,
-            words[at],
-            words[at + 1],
-            words[at + 2],
-            words[at + 3],
-        );
-        i += 1;
+    // The list with the block of addresses that begins at `at`.
+    pub(crate) fn add_block(&mut self, at: u64, block: Block)
+        requires { (self.old.count ≤ most_stretches) × (at < block.end) × (block.end ≤ addresses) }
+        ensures listing { (l : List definition.Stretch) → Listed self.old l → Listed self.new (with_block at block l) }
+        ensures upper_bound { self.new.count ≤ self.old.count + 1 }
+    {
+        if block.old != block.new {
+            self.add(Stretch {
+                first: at as u32,
+                last: (block.end - 1) as u32,
+                old: block.old,
+                new: block.new,
+            });
+        }
+    }
+
+    // The stretches, at the output's front.
+    pub(crate) fn put(&self, output: &mut [u8])
+        requires { (stretch_size * most_stretches ≤ length output.old) × (self.now.count ≤ most_stretches) }
+        ensures { (l : List definition.Stretch) → Listed self.now l → output.new ≡ store output.old 0 (stretch_bytes l) }
+    {
+        for i in 0..self.count {
+            let stretch = self.stretches[i];
+            words::four::put(
+                output,
+                STRETCH_SIZE * i,
+                stretch.first,
+                stretch.last,
+                stretch.old,
+                stretch.new,
+            );
+        }
     }
 }

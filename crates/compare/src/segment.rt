@@ -10,7 +10,7 @@ use crate::compare::NOT_STORED;
 use plan::piece::{Piece, Target, accepted_at};
 
 // The addresses of a piece: the first, and the first behind it. A run has none.
-#[derive(Clone, Copy)]
+#[derive(Clone, Copy, Debug, PartialEq, Eq)]
 pub(crate) struct Span {
     pub first: u64,
     pub past: u64,
@@ -23,16 +23,13 @@ fn span_of(piece: Piece) -> Span
     match piece {
         Piece::Put {
             address,
-            from: _,
             length,
-        } => Span {
-            first: address as u64,
-            past: address as u64 + length as u64,
-        },
-        Piece::Fill {
+            ..
+        }
+        | Piece::Fill {
             address,
             length,
-            word: _,
+            ..
         } => Span {
             first: address as u64,
             past: address as u64 + length as u64,
@@ -45,7 +42,7 @@ fn span_of(piece: Piece) -> Span
 }
 
 // The put or the fill that stores a byte last, if any does. A put's data stands in the plan, from an offset on.
-#[derive(Clone, Copy)]
+#[derive(Clone, Copy, Debug, PartialEq, Eq)]
 pub(crate) enum Source {
     Nothing,
     Put {
@@ -61,7 +58,7 @@ pub(crate) enum Source {
 }
 
 // One source for all addresses up to an end.
-#[derive(Clone, Copy)]
+#[derive(Clone, Copy, Debug, PartialEq, Eq)]
 pub(crate) struct Segment {
     pub source: Source,
     pub end: u64,
@@ -89,14 +86,8 @@ fn source_of(piece: Piece) -> Source
             length,
             word,
         },
-        Piece::Run { address: _ } => Source::Nothing,
+        Piece::Run { .. } => Source::Nothing,
     }
-}
-
-fn lesser(a: u64, b: u64) -> u64
-    ensures { result ≡ min a b }
-{
-    if b < a { b } else { a }
 }
 
 // The segment from an address on, with one piece more.
@@ -105,18 +96,16 @@ fn narrow(segment: Segment, piece: Piece, at: u64) -> Segment
     ensures { result ≡ narrowed piece at segment }
 {
     let span = span_of(piece);
-    let end = segment.end;
     if at < span.first {
-        let source = segment.source;
         return Segment {
-            source,
-            end: lesser(end, span.first),
+            source: segment.source,
+            end: segment.end.min(span.first),
         };
     }
     if at < span.past {
         return Segment {
             source: source_of(piece),
-            end: lesser(end, span.past),
+            end: segment.end.min(span.past),
         };
     }
     segment
@@ -133,27 +122,17 @@ pub(crate) fn segment_at(plan: &[u8], count: u32, at: u64, limit: u64) -> Segmen
         source: Source::Nothing,
         end: limit,
     };
-    let mut i: u32 = 0;
-    while i < count {
-        let piece = accepted_at(plan, Target::Any, i);
-        segment = narrow(segment, piece, at);
-        i += 1;
+    for i in 0..count {
+        segment = narrow(segment, accepted_at(plan, Target::Any, i), at);
     }
     segment
 }
 
 // Byte i of a word that is repeated.
-pub(crate) fn fill_byte(word: u32, i: u64) -> u32
+pub(crate) fn fill_byte(word: u32, i: u64) -> u8
     ensures { result ≡ get_or (little_endian 4 word) (i % 4) 0 }
 {
-    let bytes = [
-        word % 256,
-        word / 256 % 256,
-        word / 65536 % 256,
-        word / 16777216 % 256,
-    ];
-    let k = (i % 4) as usize;
-    bytes[k]
+    word.to_le_bytes()[(i % 4) as usize]
 }
 
 // The last byte at an address that the source reaches.
@@ -163,18 +142,10 @@ pub(crate) fn byte_at(plan: &[u8], source: Source, at: u64) -> u32
 {
     match source {
         Source::Nothing => NOT_STORED,
-        Source::Put {
-            address,
-            from,
-            length: _,
-        } => {
+        Source::Put { address, from, .. } => {
             let i = from + (at - address as u64) as usize;
             plan[i] as u32
         }
-        Source::Fill {
-            address,
-            length: _,
-            word,
-        } => fill_byte(word, at - address as u64),
+        Source::Fill { address, word, .. } => fill_byte(word, at - address as u64) as u32,
     }
 }

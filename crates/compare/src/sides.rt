@@ -8,7 +8,7 @@ use crate::reading::ADDRESSES;
 use crate::segment::{Source, segment_at};
 
 // One source in each plan for all addresses up to an end.
-#[derive(Clone, Copy)]
+#[derive(Clone, Copy, Debug, PartialEq, Eq)]
 pub(crate) struct Sources {
     pub old: Source,
     pub new: Source,
@@ -22,11 +22,9 @@ pub(crate) fn sources_at(old: &[u8], new: &[u8], old_count: u32, new_count: u32,
 {
     let old_segment = segment_at(old, old_count, at, ADDRESSES);
     let new_segment = segment_at(new, new_count, at, old_segment.end);
-    let old_source = old_segment.source;
-    let new_source = new_segment.source;
     Sources {
-        old: old_source,
-        new: new_source,
+        old: old_segment.source,
+        new: new_segment.source,
         end: new_segment.end,
     }
 }

@@ -1,11 +1,15 @@
-use lib.ListN.{get_or}
-use lib.Dec.{eqb}
-use Prim.Native.Nat.{ℕ, ◌+◌, ◌-◌, ◌≤◌, ◌<◌}
-use mathlib.Core.Path.{◌≡◌}
+use Rattle.std.proofs.Common.{◌-◌, ◌≤◌}
+use Rattle.compare.specs.Code.Pairs.{PairsBelow}
 use Rattle.compare.proofs.pairs.alike.Given as goal
 
 abbrev pub invariant-loop-k : goal.invariant-loop-k
-invariant-loop-k l = (l.k ≤ l.size) × ((y : ℕ) → y < l.k → eqb (get_or l.old (l.old_offset + y) 0) (get_or l.new (l.new_offset + y) 0) ≡ l.same)
+invariant-loop-k g l = (l.k ≤ l.size) × PairsBelow (goal.F-post g l.old) (goal.G-post g l.new) l.same l.k
 
 abbrev pub decreases-loop-k : goal.decreases-loop-k
-decreases-loop-k l = l.size - l.k
+decreases-loop-k g l = l.size - l.k
+
+abbrev pub invariant-loop-k-2 : goal.invariant-loop-k-2
+invariant-loop-k-2 g l = (l.k ≤ l.size) × PairsBelow (goal.F-post g l.old) (goal.G-post g l.new) l.same l.k
+
+abbrev pub decreases-loop-k-2 : goal.decreases-loop-k-2
+decreases-loop-k-2 g l = l.size - l.k

@@ -1,23 +1,17 @@
 -- `compare::pairs::all_alike` meets its contract: the pairs before `k` are as asked, if all still are.
-use mathlib.Core.Path.{◌≡◌}
-use Prim.Native.Nat.{◌+◌}
-use native.Mathlib.Omega.{arith}
-use lib.Dec.{eqb}
-use lib.ListN.{get_or}
-use Rattle.compare.proofs.CodeLaws.{more}
+use Rattle.std.proofs.Common.{◌∙◌, sym, arith}
+use Rattle.words.proofs.ChoiceLaws.{true-is-false}
+use Rattle.compare.specs.Code.Pairs.{Pair}
+use Rattle.compare.proofs.CodeLaws.{beq-true, more}
 use Rattle.compare.proofs.pairs.all_alike.Goals as goal
+use Rattle.compare.proofs.pairs.all_alike.Goals.{then-old-new, else-old-new}
 
 pub loop-k-init : goal.loop-k-init
-loop-k-init c = (omega arith, λ e y h. absurd (omega arith))
+loop-k-init g c = λ e y h k. absurd (omega arith)
 
 pub loop-k-preserved : goal.loop-k-preserved
-loop-k-preserved c = let l = c.loop-k in
-    let x = c.args in (
-      omega arith,
-      λ e y h.
-          more (λ k. eqb (get_or x.old.now (x.old_offset + k) 0) (get_or x.new.now (x.new_offset + k) 0) ≡ x.same) 0 l.k
-          (λ z g f. l.invariant.1 (c.is_alike-all.ensures e).0 z f) (c.is_alike-all.ensures e).1 y (omega arith) h,
-    )
-
-pub returns : goal.returns
-returns c = let l = c.loop-k in λ e y h. l.invariant.1 e y (omega arith)
+loop-k-preserved g c = let x = c.args in
+    elim c.if-old-new.branch [
+      | then-old-new w ↦ λ e. more (Pair (goal.F-post g x.old.now) (goal.G-post g x.new.now) x.same) x.at c.loop-k.k (c.loop-k.invariant (sym w.all-is ∙ e)) (record { old-byte = c.old.result; new-byte = c.new.result; is-old = c.old.ensures; is-new = c.new.ensures; alike = beq-true _ _ w.if-old-new.true })
+      | else-old-new w ↦ λ e. true-is-false (sym e ∙ w.all-is ∙ w.if-old-new.false)
+    ]

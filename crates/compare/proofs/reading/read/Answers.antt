@@ -6,20 +6,20 @@ use Rattle.plan.proofs.PlanLaws.{header-passed}
 use Rattle.plan.specs.Code.{header_is}
 use Rattle.compare.specs.Reading.{read_compared}
 use Rattle.compare.proofs.reading.read.Goals as goal
-use Rattle.compare.proofs.reading.read.Goals.{In-Good}
+use Rattle.compare.proofs.reading.read.Goals.{In-Ok}
 
 -- the header passed its tests
-passed : (c : In-Good) → judge_header c.args.plan.now ≡ counts c.in-Good.count
-passed c = sym c.judge_header.ensures ∙ ap header_is c.in-Good.is
+passed : (c : In-Ok) → judge_header c.args.plan.now ≡ counts c.in-Ok.count
+passed c = sym c.judge_header.ensures ∙ ap header_is c.in-Ok.is
 
 pub read_pieces-requires : goal.read_pieces-requires
-read_pieces-requires c = let p = header-passed c.args.plan.now (passed (goal.at.read_pieces-requires c).In-Good) in
+read_pieces-requires c = let p = header-passed c.args.plan.now (passed (goal.at.read_pieces-requires c).In-Ok) in
     omega (arith, p.few, p.count)
 
-pub returns-in-Good : goal.returns-in-Good
+pub returns-in-Ok : goal.returns-in-Ok
 unfolding read_compared
-returns-in-Good c = rw (passed (goal.at.returns-in-Good c).In-Good) c.read_pieces.ensures
+returns-in-Ok c = rw (passed (goal.at.returns-in-Ok c).In-Ok) c.read_pieces.ensures
 
-pub returns-in-Bad : goal.returns-in-Bad
+pub returns-in-Err : goal.returns-in-Err
 unfolding read_compared
-returns-in-Bad c = rw (sym c.judge_header.ensures ∙ ap header_is c.in-Bad.is)
+returns-in-Err c = rw (sym c.judge_header.ensures ∙ ap header_is c.in-Err.is, c.at.ensures)

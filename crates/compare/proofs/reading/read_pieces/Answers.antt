@@ -11,26 +11,26 @@ use Rattle.compare.proofs.reading.read_pieces.Goals as goal
 pub loop-i-init : goal.loop-i-init
 loop-i-init c = let x = c.args in
     let z : x.count - 0 ≡ x.count = omega arith in
-    (rw z (after_none (compared_pieces x.plan.now x.count 0)), omega arith)
+    rw z (after_none (compared_pieces x.plan.now x.count 0))
 
 pub loop-i-preserved : goal.loop-i-preserved
 loop-i-preserved c = let k = c in
     let x = k.args in
     let i = k.loop-i.i in
     let s = x.plan.now in
-    let e = sym c.compared_at.ensures ∙ ap judged_is c.in-Good.is in
-    let p = piece_is s c.in-Good.field-0 in
+    let e = sym c.compared_at.ensures ∙ ap judged_is c.in-Ok.is in
+    let p = piece_is s c.in-Ok.field-0 in
     let f = ap (reading_after i) (compared-good s x.count i (omega arith) e) ∙ after-piece i p (compared_pieces s (x.count - (i + 1)) (i + 1)) in
-    (sym f ∙ k.loop-i.invariant.0, omega arith)
+    sym f ∙ k.loop-i.invariant
 
-pub returns-in-Bad : goal.returns-in-Bad
-returns-in-Bad c = let k = c in
-    let x = k.args in
-    let e = sym c.compared_at.ensures ∙ ap judged_is c.in-Bad.is in
-    sym (ap (reading_after k.loop-i.i) (compared-bad x.plan.now x.count k.loop-i.i (omega arith) e)) ∙ k.loop-i.invariant.0
+pub returns-in-Err : goal.returns-in-Err
+returns-in-Err c = let x = c.args in
+    let i = c.loop-i.i in
+    let e = sym c.compared_at.ensures ∙ ap judged_is c.in-Err.is in
+    rw c.at.ensures (sym (ap (reading_after i) (compared-bad x.plan.now x.count i (omega arith) e)) ∙ c.loop-i.invariant)
 
 pub returns : goal.returns
 returns c = let k = c in
     let x = k.args in
     let z : k.loop-i.i ≡ x.count = omega arith in
-    rw z at (sym (ap (reading_after k.loop-i.i) (compared-end x.plan.now x.count k.loop-i.i (omega arith)) ∙ after-all k.loop-i.i) ∙ k.loop-i.invariant.0)
+    rw z at (sym (ap (reading_after k.loop-i.i) (compared-end x.plan.now x.count k.loop-i.i (omega arith)) ∙ after-all k.loop-i.i) ∙ k.loop-i.invariant)

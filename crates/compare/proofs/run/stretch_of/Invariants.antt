@@ -1,5 +1,5 @@
 use mathlib.Core.Path.{◌≡◌}
-use Prim.Native.Nat.{◌+◌, ◌-◌, ◌≤◌}
+use Prim.Native.Nat.{◌+◌}
 use lib.ListN.{length, drop}
 use Rattle.plan.specs.Packed.{plan_pieces}
 use Rattle.plan.specs.Meaning.{stretch}
@@ -7,7 +7,4 @@ use Rattle.compare.specs.Reading.{run_of}
 use Rattle.compare.proofs.run.stretch_of.Given as goal
 
 abbrev pub invariant-loop-i : goal.invariant-loop-i
-invariant-loop-i l = (l.i + length (stretch (drop l.i (plan_pieces 1 l.plan))) ≡ length (stretch (plan_pieces 1 l.plan))) × (run_of (drop l.i (plan_pieces 1 l.plan)) ≡ run_of (plan_pieces 1 l.plan)) × (l.i ≤ l.count)
-
-abbrev pub decreases-loop-i : goal.decreases-loop-i
-decreases-loop-i l = l.count - l.i
+invariant-loop-i l = (l.i + length (stretch (drop l.i (plan_pieces 1 l.plan))) ≡ length (stretch (plan_pieces 1 l.plan))) × (run_of (drop l.i (plan_pieces 1 l.plan)) ≡ run_of (plan_pieces 1 l.plan))

@@ -3,4 +3,4 @@ use Rattle.words.proofs.BytesLaws.{word_bytes}
 use Rattle.compare.proofs.segment.fill_byte.Goals as goal
 
 pub returns : goal.returns
-returns c = rw (word_bytes c.args.word)
+returns c = rw (word_bytes c.args.word, ← c.to_le_bytes.ensures)

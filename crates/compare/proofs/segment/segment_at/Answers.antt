@@ -13,10 +13,10 @@ use Rattle.compare.specs.LastByte.Segment.{covering, border, covering-step, bord
 use Rattle.compare.specs.Reading.Stretch.{stretch-shorter, stretch-piece}
 use Rattle.compare.specs.Code.Segment.{source_is, writable-short, narrows}
 use Rattle.compare.proofs.segment.segment_at.Goals as goal
-use Rattle.compare.proofs.segment.segment_at.Goals.{After-accepted_at-piece}
+use Rattle.compare.proofs.segment.segment_at.Goals.{After-accepted_at}
 
 -- the piece at index i
-module _ (c : After-accepted_at-piece) where
+module _ (c : After-accepted_at) where
   abbrev s : List ℕ
   s = c.args.plan.now
 
@@ -26,30 +26,29 @@ module _ (c : After-accepted_at-piece) where
   below-count : c.loop-i.i < length ps
   below-count = omega arith
 
-  piece : Found 1 s (plan_pieces 1 s) c.loop-i.i c.accepted_at-piece.result
+  piece : Found 1 s (plan_pieces 1 s) c.loop-i.i c.accepted_at.result
   piece =
-      found 1 s c.type_inv.plan c.requires.0 c.loop-i.i (omega (arith, below-count, stretch-shorter (plan_pieces 1 s))) c.accepted_at-piece.result
-      c.accepted_at-piece.ensures
+      found 1 s c.type_inv.plan c.requires.0 c.loop-i.i (omega (arith, below-count, stretch-shorter (plan_pieces 1 s))) c.accepted_at.result
+      c.accepted_at.ensures
 
-  in-stretch : drop c.loop-i.i ps ≡ piece_is s c.accepted_at-piece.result ∷ drop (suc c.loop-i.i) ps
+  in-stretch : drop c.loop-i.i ps ≡ piece_is s c.accepted_at.result ∷ drop (suc c.loop-i.i) ps
   in-stretch = stretch-piece (plan_pieces 1 s) c.loop-i.i below-count piece.from
 
 pub loop-i-init : goal.loop-i-init
-loop-i-init c = (refl, refl, tt, omega arith)
+loop-i-init c = (refl, refl, tt)
 
 pub narrow-segment-requires : goal.narrow-segment-requires
-narrow-segment-requires c = writable-short (s (goal.at.narrow-segment-requires c).After-accepted_at-piece) c.accepted_at-piece.result (piece (goal.at.narrow-segment-requires c).After-accepted_at-piece).writable
+narrow-segment-requires c = writable-short (s (goal.at.narrow-segment-requires c).After-accepted_at) c.accepted_at.result (piece (goal.at.narrow-segment-requires c).After-accepted_at).writable
 
 pub loop-i-preserved : goal.loop-i-preserved
-loop-i-preserved c = let d = (goal.at.loop-i-preserved c).After-accepted_at-piece in
+loop-i-preserved c = let d = (goal.at.loop-i-preserved c).After-accepted_at in
     let l = c.loop-i in
     let x = c.args in
-    let p = piece_is (s d) c.accepted_at-piece.result in
-    let n = rw (sym c.narrow-segment.ensures) at (narrows (s d) c.accepted_at-piece.result (piece d).writable x.at l.segment l.invariant.2) in (
+    let p = piece_is (s d) c.accepted_at.result in
+    let n = rw (sym c.narrow-segment.ensures) at (narrows (s d) c.accepted_at.result (piece d).writable x.at l.segment l.invariant.2) in (
       ap (covering (drop (l.i + 1) (ps d)) x.at) n.source-is ∙ sym (covering-step (ps d) l.i x.at p (in-stretch d) (source_is (s d) l.segment.source)) ∙ l.invariant.0,
       ap (border (drop (l.i + 1) (ps d)) x.at) n.end_is ∙ sym (border-step (ps d) l.i x.at p (in-stretch d) l.segment.end) ∙ l.invariant.1,
       n.reaches,
-      omega arith,
     )
 
 pub returns : goal.returns

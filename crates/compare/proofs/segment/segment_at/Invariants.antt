@@ -1,5 +1,4 @@
 use mathlib.Core.Path.{◌≡◌}
-use Prim.Native.Nat.{◌-◌, ◌≤◌}
 use lib.ListN.{drop}
 use Rattle.plan.specs.Packed.{plan_pieces}
 use Rattle.plan.specs.Meaning.{stretch}
@@ -11,7 +10,3 @@ abbrev pub invariant-loop-i : goal.invariant-loop-i
 invariant-loop-i l = (covering (drop l.i (stretch (plan_pieces 1 l.plan))) l.at (source_is l.plan l.segment.source) ≡ covering (stretch (plan_pieces 1 l.plan)) l.at nothing)
     × (border (drop l.i (stretch (plan_pieces 1 l.plan))) l.at l.segment.end ≡ border (stretch (plan_pieces 1 l.plan)) l.at l.limit)
     × Reaches l.plan l.segment.source l.at l.segment.end
-    × (l.i ≤ l.count)
-
-abbrev pub decreases-loop-i : goal.decreases-loop-i
-decreases-loop-i l = l.count - l.i
