@@ -1,7 +1,7 @@
 // The packer.
 ghost use Rattle.std.specs.Prelude.{◌≡◌, length};
 ghost use Rattle.plan.specs.Plan.{read_plan};
-ghost use Rattle.plan.specs.Packed.{output_after, outcome_of};
+ghost use Rattle.plan.specs.Packed.{output_after, outcome_of, written_length};
 ghost use Rattle.plan.specs.Code.Packer.{outcome_is};
 ghost use Rattle.aplx_pack.specs.Image.{aplx_image, pack_aplx};
 
@@ -44,4 +44,11 @@ pub fn pack(plan: &[u8], output: &mut [u8]) -> Result<usize, Refusal>
     ensures output_after { output.new ≡ output_after (pack_aplx plan.now (length output.old)) output.old }
 {
     plan::pack::pack::<Aplx>(plan, output)
+}
+
+// The length of a plan's image, or 0 where the plan is refused.
+pub fn image_length(plan: &[u8]) -> usize
+    ensures { result ≡ written_length aplx_image (read_plan 32 plan.now) }
+{
+    plan::pack::image_length::<Aplx>(plan)
 }

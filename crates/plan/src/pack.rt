@@ -3,7 +3,7 @@ ghost use Rattle.std.specs.Prelude.{◌≡◌, ◌+◌, ◌*◌, ◌≤◌, ℕ,
 ghost use Rattle.words.specs.Store.{store};
 ghost use Rattle.plan.specs.declared.read.Pieces.{Pieces as PiecesOf};
 ghost use Rattle.plan.specs.Plan.{Piece as PieceOf, Read, put_bytes};
-ghost use Rattle.plan.specs.Packed.{packed_as, output_after, outcome_of, pieces_in};
+ghost use Rattle.plan.specs.Packed.{packed_as, output_after, outcome_of, pieces_in, written_length};
 ghost use Rattle.plan.specs.Code as reader;
 ghost use Rattle.plan.specs.Code.Packer.{Counted, ImageFits, outcome_is};
 
@@ -43,4 +43,14 @@ pub fn pack<P: Packer>(source: &[u8], output: &mut [u8]) -> Result<usize, Refusa
     }
     P::write(source, pieces, output);
     Ok(size)
+}
+
+// The length of the image, or 0 where the source is refused.
+pub fn image_length<P: Packer>(source: &[u8]) -> usize
+    ensures { result ≡ written_length P.image (P.reads source.now) }
+{
+    match P::read(source) {
+        Ok(pieces) => P::size(pieces),
+        Err(_) => 0,
+    }
 }
