@@ -28,18 +28,6 @@ put_found c =
 pub bytes-requires : goal.bytes-requires
 bytes-requires c = let w = (put_found (goal.at.bytes-requires c).In-Put).writable in record { inside = w.0; most = w.2 }
 
-pub place_of-place-requires : goal.place_of-place-requires
-place_of-place-requires c = rw c.contents.ensures c.loop-i.invariant.located
-
-pub bounds-kept-kept : goal.bounds-kept-kept
-bounds-kept-kept c = omega (arith, c.requires.few, c.loop-i.invariant.few)
-
-pub offset_bounds-kept-kept : goal.offset_bounds-kept-kept
-offset_bounds-kept-kept c = omega (arith, c.requires.few, c.loop-i.invariant.few)
-
-pub overflow_add-kept : goal.overflow_add-kept
-overflow_add-kept c = omega (arith, c.requires.few, c.loop-i.invariant.few)
-
 pub overflow_add-kept-then-place-kept : goal.overflow_add-kept-then-place-kept
 overflow_add-kept-then-place-kept c = omega (arith, c.requires.few, c.loop-i.invariant.most, (put_found (goal.at.overflow_add-kept-then-place-kept c).In-Put).writable.2)
 
@@ -79,6 +67,3 @@ loop-i-preserved c =
             | inr h ↦ same (Run h.0) h.1 refl refl
           ])
     ]
-
-pub returns : goal.returns
-returns c = let e : c.loop-i.i ≡ c.args.pieces = omega arith in rw e at c.loop-i.invariant

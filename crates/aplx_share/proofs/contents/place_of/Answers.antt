@@ -14,9 +14,6 @@ pub loop-kept-init : goal.loop-kept-init
 unfolding total_length is_among
 loop-kept-init c = (refl, (refl, omega arith))
 
-pub bytes-requires : goal.bytes-requires
-bytes-requires c = is-inside c.args.plan.now c.args.contents.now c.loop-kept.kept-index c.loop-kept-test.true c.requires
-
 pub returns-then-equal : goal.returns-then-equal
 returns-then-equal c =
     let s = c.args.plan.now in
@@ -24,11 +21,6 @@ returns-then-equal c =
     let k = c.loop-kept.kept-index in
     let z = ap (λ (l : List ℕ). same l c.args.content.now) (c.bytes.ensures ∙ part-kept s cs k c.loop-kept-test.true) in
     c.loop-kept.invariant.0 ∙ sym (look-found (contents_at s cs) c.args.content.now k c.loop-kept.invariant.1.0 (in_kept s cs k c.loop-kept-test.true) (sym z ∙ sym c.equal.ensures ∙ c.if-equal.true))
-
-pub overflow_add-place : goal.overflow_add-place
-overflow_add-place c =
-    let i = is-inside c.args.plan.now c.args.contents.now c.loop-kept.kept-index c.loop-kept-test.true c.requires in
-    omega (arith, i.most, c.requires.few)
 
 pub loop-kept-preserved : goal.loop-kept-preserved
 loop-kept-preserved c =

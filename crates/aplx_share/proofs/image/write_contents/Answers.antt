@@ -1,22 +1,18 @@
 -- `aplx_share::image::write_contents` meets its contract: the loop's invariant: the contents before the index are written, and the place is behind them.
 use Rattle.std.specs.Prelude.{◌≡◌, List, [], ℕ, ◌+◌, ◌<◌, ◌≤◌, length, take, get_or}
-use Rattle.std.proofs.Common.{sym, ◌∙◌, ap, add-zero, arith, length-append, take_all}
-use Rattle.std.proofs.lemmas.List.{length-map}
-use Rattle.words.specs.Store.{store, store_if_fits}
+use Rattle.std.proofs.Common.{sym, ◌∙◌, ap, add-zero, arith, length-append}
+use Rattle.words.specs.Store.{store_if_fits}
 use Rattle.words.proofs.StoreLaws.{store-nil, store-behind}
 use Rattle.aplx_share.specs.Contents.{joined}
 use Rattle.aplx_share.proofs.ContentsSteps.{joined-next, joined-most}
 use Rattle.aplx_share.specs.declared.contents.Content.{Content}
-use Rattle.aplx_share.specs.Collected.{bytes_of, contents_at, Located}
-use Rattle.aplx_share.proofs.CollectedLaws.{no_content, in_kept, part-kept, is-inside, length-kept}
+use Rattle.aplx_share.specs.Collected.{contents_at, Located}
+use Rattle.aplx_share.proofs.CollectedLaws.{no_content, in_kept, part-kept, length-kept}
 use Rattle.aplx_share.proofs.image.write_contents.Goals as goal
 
 pub loop-content-init : goal.loop-content-init
 unfolding joined
 loop-content-init c = (sym (store-nil c.args.output.now c.args.at), sym (add-zero c.args.at))
-
-pub bytes-requires : goal.bytes-requires
-bytes-requires c = is-inside c.args.plan.now c.args.contents.now c.loop-content.content-index c.loop-content-test.true c.requires.0
 
 -- the contents through one more
 joined-size : (s : List ℕ) (cs : List Content) (k : ℕ) (h : k < length cs) → Located s cs
@@ -49,10 +45,3 @@ loop-content-preserved c =
           (store-behind m c.args.at (joined (take k all)) bytes c.loop-content.place c.loop-content.output _ (omega arith) fits c.loop-content.invariant.0 e),
       omega (arith, size),
     )
-
-pub returns : goal.returns
-returns c =
-    let s = c.args.plan.now in
-    let cs = c.args.contents.now in
-    let t = take_all c.loop-content.content-index (contents_at s cs) (omega (arith, length-map cs (bytes_of s))) in
-    c.loop-content.invariant.0 ∙ ap (λ (l : List (List ℕ)). store c.args.output.now c.args.at (joined l)) t

@@ -1,10 +1,8 @@
 -- `aplx_share::pack::image_length` meets its contract: the length of the image by its count of pieces and the lengths of what is kept.
-use Rattle.std.proofs.Common.{ap, sym, ◌∙◌, arith}
+use Rattle.std.proofs.Common.{arith}
 use Rattle.plan.specs.Plan.{read_plan}
-use Rattle.plan.specs.Code as reader
 use Rattle.plan.proofs.CodeLaws.{Counted, counted}
-use Rattle.plan.proofs.CodePackerLaws.{counted-read, refused-length}
-use Rattle.aplx_share.specs.SharedImage.{shared_image}
+use Rattle.plan.proofs.CodePackerLaws.{counted-read}
 use Rattle.aplx_share.proofs.CollectedSteps.{image-size}
 use Rattle.aplx_share.proofs.pack.image_length.Goals as goal
 use Rattle.aplx_share.proofs.pack.image_length.Goals.{In-Ok}
@@ -27,9 +25,6 @@ overflow_mul-result c = omega (arith, read-plan (goal.at.overflow_mul-result c).
 
 pub overflow_add-result-in-Ok : goal.overflow_add-result-in-Ok
 overflow_add-result-in-Ok c = omega (arith, read-plan (goal.at.overflow_add-result-in-Ok c).In-Ok, c.collect.ensures.most)
-
-pub returns-in-Err : goal.returns-in-Err
-returns-in-Err c = refused-length shared_image (read_plan 32 c.args.plan.now) (sym c.read.ensures ∙ ap reader.outcome_is c.in-Err.is)
 
 pub returns-in-Ok : goal.returns-in-Ok
 returns-in-Ok c =

@@ -8,7 +8,7 @@ use Rattle.aplx_share.specs.Contents.{kept_contents}
 use Rattle.aplx_share.proofs.ContentsLaws.{length-joined}
 use Rattle.aplx_share.specs.SharedImage.{shared_image, pack_shared}
 use Rattle.aplx_share.proofs.SharedImageLaws.{length-shared_image, written-image}
-use Rattle.aplx_share.proofs.CollectedSteps.{all-kept, all_placed, image-size}
+use Rattle.aplx_share.proofs.CollectedSteps.{all-kept, image-size}
 use Rattle.aplx_share.proofs.pack.pack_pieces.Goals as goal
 
 pub returns-then-output-front : goal.returns-then-output-front
@@ -22,9 +22,6 @@ unfolding pack_shared
 returns-then-output-size c = let x = c.args in
     let r = leaves-small shared_image (read_plan 32 x.plan.now) x.output.now c.requires (image-size x.plan.now c.requires c.collect-kept.ensures) (omega arith) in
     record { result_value = rw c.at.ensures r.0; output_after = r.1 }
-
-pub write_entries-requires : goal.write_entries-requires
-write_entries-requires c = (c.requires, all_placed c.args.plan.now c.requires c.collect-kept.ensures, omega (arith, c.requires.few), omega arith)
 
 pub write_contents-requires : goal.write_contents-requires
 write_contents-requires c =
