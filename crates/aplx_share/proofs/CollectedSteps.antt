@@ -1,7 +1,8 @@
 -- Laws of the contents that the code collects, piece by piece.
-use Rattle.std.specs.Prelude.{◌≡◌, refl, Bool, ℕ, ◌+◌, ◌*◌, ◌≤◌, ◌<◌, eqb, length, drop, get_or, set}
+use Rattle.std.specs.Prelude.{◌≡◌, refl, Bool, ℕ, ◌+◌, ◌*◌, ◌<◌, eqb, length, get_or, set}
 use Rattle.std.proofs.Math.Path.{ap, sym}
-use Rattle.std.proofs.Common.{◌∙◌, arith, length-append, take_all, drop-cons, eqb-true}
+use Rattle.std.proofs.Common.{◌∙◌, arith, length-append, length-set, length-take-le, take_all, drop-cons, eqb-true}
+use Rattle.std.proofs.lemmas.List.{map-append, take_more_set}
 use Rattle.std.proofs.Math.Bool.{true, false}
 use mathlib.Core.List.{List, [], ◌∷◌, ◌++◌, append-nil}
 use Rattle.std.proofs.Math.ListN.{take, get_or-append}
@@ -19,8 +20,9 @@ use Rattle.aplx_share.proofs.ContentsSteps.{contents-append, total_length-append
 use Rattle.aplx_share.proofs.ContentsPlaces.{place-known, place-more}
 use Rattle.aplx_share.specs.SharedImage.{place_of, shared_image}
 use Rattle.aplx_share.proofs.SharedImageLaws.{length-shared_image}
-use Rattle.aplx_share.specs.Collected.{kept_at, PlacesOf, Collected}
-use Rattle.aplx_share.proofs.CollectedLaws.{set_at, kept_more, located-more}
+use Rattle.aplx_share.specs.declared.contents.Content.{Content}
+use Rattle.aplx_share.specs.Collected.{bytes_of, used, kept_at, Inside, PlacesOf, Collected}
+use Rattle.aplx_share.proofs.CollectedLaws.{set_at, located-more}
 
 -- ---- places, one piece more
 -- the data of a piece has the place at which it was looked for
@@ -60,21 +62,18 @@ places-more qs p places {i} {v} h e l f j b = go (eqb j i) refl
 
 -- ---- what is collected, one piece more
 -- of no pieces
-pub collected-none : (s : List ℕ) (ps : List Piece) (starts sizes places : List ℕ) → Collected s ps 0 starts sizes places (record { count = 0; size = 0 })
+pub collected-none : (s : List ℕ) (ps : List Piece) (cs : List Content) (places : List ℕ) → length cs ≡ 64 → length places ≡ 64
+    → Collected s ps 0 (record { contents = cs; count = 0; size = 0; places = places })
 unfolding contents different total_length
-collected-none s ps starts sizes places = record {
+collected-none s ps cs places e f = record {
   are-kept = refl;
   size = refl;
-  located = record {
-    inside = λ k b. absurd (omega arith);
-    most = λ k b. absurd (omega arith);
-    in-starts = omega arith;
-    in-sizes = omega arith;
-    few = omega arith;
-  };
+  located = record { all = tt; few = omega arith };
   placed = λ j b. absurd (omega arith);
   few = omega arith;
   most = omega arith;
+  in-contents = e;
+  in-places = f;
 }
 
 -- the different contents of one piece more: of one that has no content, of a put whose content is kept already, and of one whose is new
@@ -98,47 +97,61 @@ module _ (qs : List Piece) (a : ℕ) (d : List ℕ) where
       let h : is_among (contents qs) d ≡ false = sym (among-different (contents qs) d) ∙ m in
       put-more ∙ rw h
 
-module _ (s : List ℕ) (ps : List Piece) (i : ℕ) {starts sizes places : List ℕ} {kept : Kept} (c : Collected s ps i starts sizes places kept) (p : Piece)
-    (through : take (i + 1) ps ≡ take i ps ++ p ∷ []) (at : i ≡ length (take i ps)) (l : i < length places) {v : ℕ}
+module _ (s : List ℕ) (ps : List Piece) (i : ℕ) {kept : Kept} (c : Collected s ps i kept) (p : Piece)
+    (through : take (i + 1) ps ≡ take i ps ++ p ∷ []) (at : i ≡ length (take i ps)) (l : i < 64) {v : ℕ}
     (f : v ≡ place_of (kept_contents (take i ps)) p) where
   abbrev qs : List Piece
   qs = take i ps
 
-  pub collected-same : kept_contents (qs ++ p ∷ []) ≡ kept_contents qs → Collected s ps (i + 1) starts sizes (set places i v) kept
+  -- the places, with that of the piece
+  abbrev places : List ℕ
+  places = set kept.places i v
+
+  placed-more : PlacesOf (take (i + 1) ps) places
+  placed-more = rw through (places-more qs p kept.places c.placed at (omega (arith, c.in-places)) f)
+
+  pub collected-same : kept_contents (qs ++ p ∷ []) ≡ kept_contents qs
+      → Collected s ps (i + 1) (record { contents = kept.contents; count = kept.count; size = kept.size; places = places })
   collected-same e = record {
     are-kept = rw (through, e) c.are-kept;
     size = rw (through, e) c.size;
     located = c.located;
-    placed = rw through (places-more qs p places c.placed at l f);
+    placed = placed-more;
     few = omega (arith, c.few);
     most = omega (arith, c.most);
+    in-contents = c.in-contents;
+    in-places = rw (length-set kept.places i v) c.in-places;
   }
 
-  pub collected-more : (o n : ℕ) → o + n ≤ length s → n ≤ 65536 → i < 64 → kept.count < length starts → kept.count < length sizes
-      → kept_contents (qs ++ p ∷ []) ≡ kept_contents qs ++ take n (drop o s) ∷ []
-      → Collected s ps (i + 1) (set starts kept.count o) (set sizes kept.count n) (set places i v) (record { count = kept.count + 1; size = kept.size + n })
+  pub collected-more : (o : Content) → Inside s o → kept_contents (qs ++ p ∷ []) ≡ kept_contents qs ++ bytes_of s o ∷ []
+      → Collected s ps (i + 1) (record { contents = set kept.contents kept.count o; count = kept.count + 1; size = kept.size + o.length; places = places })
   unfolding total_length
-  collected-more o n inside most few x y e = record {
-    are-kept = rw (through, e) (kept_more s starts sizes kept.count o n x y ∙ ap (λ (cs : List (List ℕ)). cs ++ take n (drop o s) ∷ []) c.are-kept);
-    size = rw (through, e, total_length-append (kept_contents qs) (take n (drop o s) ∷ [])) (omega (arith, c.size, data-length s o n inside));
-    located = located-more s starts sizes kept.count o n x y (omega (arith, c.few)) inside most c.located;
-    placed = rw through (places-more qs p places c.placed at l f);
-    few = omega (arith, c.few);
-    most = omega (arith, c.most);
-  }
+  collected-more o inside e =
+      let k : take (kept.count + 1) (set kept.contents kept.count o) ≡ used kept ++ o ∷ [] = take_more_set kept.contents kept.count o (omega (arith, c.few, c.in-contents)) in
+      let n : length (used kept) ≡ kept.count = length-take-le kept.count kept.contents (omega (arith, c.few, c.in-contents)) in
+      record {
+        are-kept = rw (through, e, k) (map-append (bytes_of s) (used kept) (o ∷ []) ∙ ap (λ (cs : List (List ℕ)). cs ++ bytes_of s o ∷ []) c.are-kept);
+        size = rw (through, e, total_length-append (kept_contents qs) (bytes_of s o ∷ [])) (omega (arith, c.size, data-length s o.start o.length inside.inside));
+        located = rw k (located-more s (used kept) o (omega (arith, c.few)) inside c.located);
+        placed = placed-more;
+        few = omega (arith, c.few);
+        most = omega (arith, c.most, inside.most);
+        in-contents = rw (length-set kept.contents kept.count o) c.in-contents;
+        in-places = rw (length-set kept.places i v) c.in-places;
+      }
 
 -- ---- of all pieces of a plan that was read
-module _ (s : List ℕ) {count : ℕ} (r : ReadAs (read_plan 32 s) count) {starts sizes places : List ℕ} {kept : Kept} (c : Collected s (plan_pieces 32 s) count starts sizes places kept) where
+module _ (s : List ℕ) {count : ℕ} (r : ReadAs (read_plan 32 s) count) {kept : Kept} (c : Collected s (plan_pieces 32 s) count kept) where
   abbrev ps : List Piece
   ps = plan_pieces 32 s
 
   whole : take count ps ≡ ps
   whole = take_all count ps (omega (arith, r.counts))
 
-  pub all-kept : kept_at s starts sizes kept.count ≡ kept_contents ps
+  pub all-kept : kept_at s kept ≡ kept_contents ps
   all-kept = rw whole at c.are-kept
 
-  pub all_placed : PlacesOf ps places
+  pub all_placed : PlacesOf ps kept.places
   all_placed = rw whole at c.placed
 
   pub image-size : 16 * (count + 1) + kept.size ≡ length (shared_image ps)

@@ -11,7 +11,7 @@ use Rattle.plan.specs.Packed.{packs}
 use Rattle.plan.proofs.PackedLaws.{Fitting, accepted-facts, fitting-packed}
 use Rattle.aplx_pack.specs.Image.{entry_of, aplx_image}
 use Rattle.aplx_pack.proofs.ImageLaws.{length-entry_of, drop-entry, length-aplx_image}
-use Rattle.aplx_share.specs.Contents.{contents, is_among, different, kept_contents, joined, total_length, place}
+use Rattle.aplx_share.specs.Contents.{contents, is_among, kept_contents, joined, total_length, place}
 use Rattle.aplx_share.proofs.ContentsLaws.{length-joined, total_length-contents, different-shorter}
 use Rattle.aplx_share.proofs.ContentsSteps.{contents-append}
 use Rattle.aplx_share.proofs.ContentsPlaces.{place-earliest}

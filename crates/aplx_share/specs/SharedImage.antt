@@ -4,7 +4,7 @@ use Rattle.words.specs.Four.{four_bytes}
 use Rattle.plan.specs.Plan.{Piece, put, fill, run, read_plan}
 use Rattle.plan.specs.Packed.{Packed, packed_as}
 use Rattle.aplx_pack.specs.Image.{entry_of}
-use Rattle.aplx_share.specs.Contents.{contents, different, kept_contents, joined, place}
+use Rattle.aplx_share.specs.Contents.{kept_contents, joined, place}
 
 -- "the later entry points to the earliest such copy": where these contents are kept behind the end entry, how far behind it the data of a
 -- piece lies; a fill and a run have none

@@ -4,86 +4,95 @@ ghost use Rattle.plan.specs.Plan.{read_plan};
 ghost use Rattle.plan.specs.Code.Packer.{ReadAs};
 ghost use Rattle.plan.specs.Packed.{plan_pieces};
 ghost use Rattle.aplx_share.specs.Contents.{place};
-ghost use Rattle.aplx_share.specs.Collected.{kept_at, Located, Collected};
+ghost use Rattle.aplx_share.specs.Collected.{Inside, Located, Collected, bytes_of, contents_at, used};
 
-use plan::piece::{Piece, Target};
+use plan::piece::{Piece, Target, accepted_at};
 
 // The most pieces of a plan.
-pub(crate) const PIECES: usize = 64;
+const PIECES: usize = 64;
 
-// How many different contents there are, and how many bytes they have in all.
-#[derive(Clone, Copy)]
-pub(crate) struct Kept {
-    pub count: usize,
-    pub size: usize,
+// Where a content stands in the plan.
+#[derive(Clone, Copy, Debug, PartialEq, Eq)]
+pub(crate) struct Content {
+    pub start: usize,
+    pub length: usize,
 }
 
-// How many bytes of the first `count` contents stand before the earliest that equals this content; all of them where none does.
-fn place_of(plan: &[u8], starts: &[usize], lengths: &[usize], count: usize, content: &[u8]) -> usize
-    requires { Located plan.now starts.now lengths.now count }
-    ensures { result ≡ place (kept_at plan.now starts.now lengths.now count) content.now }
+// What is kept of the puts of a plan: where the first `count` contents stand, in the order of their first appearance; how many bytes they
+// have in all; and for each piece how many of these stand before its own data.
+#[derive(Clone, Copy)]
+pub(crate) struct Kept {
+    contents: [Content; PIECES],
+    count: usize,
+    pub size: usize,
+    pub places: [usize; PIECES],
+}
+
+impl Content {
+    pub(crate) fn bytes(self, plan: &[u8]) -> &[u8]
+        requires { Inside plan.now self }
+        ensures { result.now ≡ bytes_of plan.now self }
+    {
+        &plan[self.start..self.start + self.length]
+    }
+}
+
+impl Kept {
+    // The contents that are kept.
+    pub(crate) fn contents(&self) -> &[Content]
+        ensures { result.now ≡ used self.now }
+    {
+        &self.contents[..self.count.min(PIECES)]
+    }
+}
+
+// How many bytes of these contents stand before the earliest that equals this one; all of them where none does.
+fn place_of(plan: &[u8], contents: &[Content], content: &[u8]) -> usize
+    requires { Located plan.now contents.now }
+    ensures { result ≡ place (contents_at plan.now contents.now) content.now }
 {
     let mut place: usize = 0;
-    let mut k: usize = 0;
-    while k < count {
-        let start = starts[k];
-        let length = lengths[k];
-        let end = start + length;
-        if words::equal::equal(&plan[start..end], content) {
+    for kept in contents {
+        if words::equal::equal(kept.bytes(plan), content) {
             return place;
         }
-        place += length;
-        k += 1;
+        place += kept.length;
     }
     place
 }
 
-// Where the different contents stand in the plan, in the order of their first appearance, with their lengths; and for each piece how many
-// bytes of them stand before its own data.
-pub(crate) fn collect(
-    plan: &[u8],
-    pieces: u32,
-    starts: &mut [usize],
-    lengths: &mut [usize],
-    places: &mut [usize],
-) -> Kept
-    requires { ReadAs (read_plan 32 plan.now) pieces × (pieces ≤ length starts.old) × (pieces ≤ length lengths.old) × (pieces ≤ length places.old) }
-    ensures { Collected plan.now (plan_pieces 32 plan.now) pieces starts.new lengths.new places.new result }
+// What is kept of a plan with so many pieces.
+pub(crate) fn collect(plan: &[u8], pieces: u32) -> Kept
+    requires { ReadAs (read_plan 32 plan.now) pieces }
+    ensures { Collected plan.now (plan_pieces 32 plan.now) pieces result }
 {
-    let mut count: usize = 0;
-    let mut size: usize = 0;
-    let mut i: u32 = 0;
-    while i < pieces {
-        match plan::piece::accepted_at(plan, Target::Aplx, i) {
-            Piece::Put {
-                address: _,
-                from,
-                length,
-            } => {
-                let end = from + length;
-                let place = place_of(plan, starts, lengths, count, &plan[from..end]);
-                places[i as usize] = place;
-                if place == size {
-                    starts[count] = from;
-                    lengths[count] = length;
-                    count += 1;
-                    size += length;
+    let none = Content {
+        start: 0,
+        length: 0,
+    };
+    let mut kept = Kept {
+        contents: [none; PIECES],
+        count: 0,
+        size: 0,
+        places: [0; PIECES],
+    };
+    for i in 0..pieces {
+        match accepted_at(plan, Target::Aplx, i) {
+            Piece::Put { from, length, .. } => {
+                let content = Content {
+                    start: from,
+                    length,
+                };
+                let place = place_of(plan, kept.contents(), content.bytes(plan));
+                kept.places[i as usize] = place;
+                if place == kept.size {
+                    kept.contents[kept.count] = content;
+                    kept.count += 1;
+                    kept.size += length;
                 }
-                i += 1;
             }
-            Piece::Fill {
-                address: _,
-                length: _,
-                word: _,
-            } => {
-                places[i as usize] = 0;
-                i += 1;
-            }
-            Piece::Run { address: _ } => {
-                places[i as usize] = 0;
-                i += 1;
-            }
+            Piece::Fill { .. } | Piece::Run { .. } => kept.places[i as usize] = 0,
         }
     }
-    Kept { count, size }
+    kept
 }

@@ -19,9 +19,6 @@ put-fits : (c : In-Put) → let x = c.args in
     Writable 32 x.plan.now (Put c.in-Put.address c.in-Put.from c.in-Put.length) × (x.place + c.in-Put.length ≤ length x.output.now)
 put-fits c = rw c.in-Put.is at c.requires
 
-pub slice_bounds-bytes-end : goal.slice_bounds-bytes-end
-slice_bounds-bytes-end c = (put-fits (goal.at.slice_bounds-bytes-end c).In-Put).0.0
-
 pub returns-in-Put : goal.returns-in-Put
 returns-in-Put c = let d = c in
     let x = d.args in

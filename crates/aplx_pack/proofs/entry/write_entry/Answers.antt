@@ -10,6 +10,3 @@ returns-in-Put c = rw (c.in-Put.is, c.put.ensures, little_endian-modulo 4 c.in-P
 pub returns-in-Fill : goal.returns-in-Fill
 unfolding four_bytes
 returns-in-Fill c = rw (c.in-Fill.is, c.put-in-Fill.ensures, little_endian-modulo 4 c.in-Fill.length)
-
-pub returns-in-Run : goal.returns-in-Run
-returns-in-Run c = rw (c.in-Run.is, c.put-in-Run.ensures)

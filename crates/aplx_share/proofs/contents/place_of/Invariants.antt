@@ -1,14 +1,8 @@
-use mathlib.Core.Path.{◌≡◌}
-use mathlib.Core.Bool.{false}
-use Prim.Native.Nat.{◌-◌, ◌*◌, ◌≤◌}
-use lib.ListN.{take}
-use Rattle.aplx_share.specs.Contents.{is_among, total_length, place}
-use Rattle.aplx_share.specs.Collected.{kept_at}
+use Rattle.std.specs.Prelude.{◌≡◌, ◌*◌, ◌≤◌, take, false}
+use Rattle.aplx_share.specs.Contents.{is_among, total_length}
+use Rattle.aplx_share.specs.Collected.{contents_at}
 use Rattle.aplx_share.proofs.contents.place_of.Given as goal
 
-abbrev pub invariant-loop-k : goal.invariant-loop-k
-invariant-loop-k l = (l.place ≡ total_length (take l.k (kept_at l.plan l.starts l.lengths l.count)))
-    × ((is_among (take l.k (kept_at l.plan l.starts l.lengths l.count)) l.content ≡ false) × ((l.place ≤ 65536 * l.k) × (l.k ≤ l.count)))
-
-abbrev pub decreases-loop-k : goal.decreases-loop-k
-decreases-loop-k l = l.count - l.k
+abbrev pub invariant-loop-kept : goal.invariant-loop-kept
+invariant-loop-kept l = (l.place ≡ total_length (take l.kept-index (contents_at l.plan l.contents)))
+    × ((is_among (take l.kept-index (contents_at l.plan l.contents)) l.content ≡ false) × (l.place ≤ 65536 * l.kept-index))

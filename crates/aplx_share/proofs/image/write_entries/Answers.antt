@@ -1,5 +1,5 @@
--- `aplx_share::image::write_entries` meets its contract: the loop's invariant: the entries before piece `i` are written. The measure is the pieces left.
-use mathlib.Core.Path.{◌≡◌, refl, ap, sym, ◌∙◌}
+-- `aplx_share::image::write_entries` meets its contract: the loop's invariant: the entries before piece `i` are written.
+use mathlib.Core.Path.{◌≡◌, ap, sym, ◌∙◌}
 use mathlib.Core.List.{List}
 use Prim.Native.Nat.{◌+◌, ◌-◌, ◌*◌, ◌≤◌}
 use native.Mathlib.Omega.{arith}
@@ -23,7 +23,7 @@ use Rattle.aplx_share.proofs.image.write_entries.Goals as goal
 use Rattle.aplx_share.proofs.image.write_entries.Goals.{After-accepted_at-piece}
 
 pub loop-i-init : goal.loop-i-init
-loop-i-init c = (sym (store-nil c.args.output.now 0), (refl, omega arith))
+loop-i-init c = sym (store-nil c.args.output.now 0)
 
 -- the piece read is the plan's
 module _ (c : After-accepted_at-piece) where
@@ -39,21 +39,6 @@ module _ (c : After-accepted_at-piece) where
   low : place_of (kept_contents ps) (piece_is c.args.plan.now c.accepted_at-piece.result) ≤ 4194304
   low = place-low c.args.plan.now c.type_inv.plan c.requires.0 (piece_is c.args.plan.now c.accepted_at-piece.result)
 
-pub overflow_add-offset : goal.overflow_add-offset
-overflow_add-offset c = omega (arith, c.requires.0.few)
-
-pub overflow_cast-offset : goal.overflow_cast-offset
-overflow_cast-offset c = omega (arith, c.requires.0.few)
-
-pub overflow_mul-offset : goal.overflow_mul-offset
-overflow_mul-offset c = omega (arith, c.requires.0.few)
-
-pub offset_bounds-places-i : goal.offset_bounds-places-i
-offset_bounds-places-i c = omega (arith, c.requires.0.few)
-
-pub bounds-places-i : goal.bounds-places-i
-bounds-places-i c = omega (arith, c.requires.2)
-
 pub overflow_add-offset-in-loop-i : goal.overflow_add-offset-in-loop-i
 overflow_add-offset-in-loop-i c = let d = c in omega (arith, c.requires.0.few, place_is (goal.at.overflow_add-offset-in-loop-i c).After-accepted_at-piece, low (goal.at.overflow_add-offset-in-loop-i c).After-accepted_at-piece)
 
@@ -61,26 +46,20 @@ pub overflow_cast-offset-in-loop-i-2 : goal.overflow_cast-offset-in-loop-i-2
 overflow_cast-offset-in-loop-i-2 c = let d = c in omega (arith, c.requires.0.few, place_is (goal.at.overflow_cast-offset-in-loop-i-2 c).After-accepted_at-piece, low (goal.at.overflow_cast-offset-in-loop-i-2 c).After-accepted_at-piece)
 
 pub loop-i-preserved : goal.loop-i-preserved
-loop-i-preserved c = let d = c in
-    let n = next-piece (goal.at.loop-i-preserved c).After-accepted_at-piece in
+loop-i-preserved c =
+    let here = (goal.at.loop-i-preserved c).After-accepted_at-piece in
+    let n = next-piece here in
     let x = c.args in
     let i = c.loop-i.i in
-    let p = piece_is x.plan.now d.accepted_at-piece.result in
-    let off : 16 * (x.pieces - i + 1) + get_or x.places.now i 0 ≡ 16 * (length (ps (goal.at.loop-i-preserved c).After-accepted_at-piece) - i + 1) + place_of (kept_contents (ps (goal.at.loop-i-preserved c).After-accepted_at-piece)) p = omega (arith, c.requires.0.counts, place_is (goal.at.loop-i-preserved c).After-accepted_at-piece) in
-    let entry = entry_of p (16 * (length (ps (goal.at.loop-i-preserved c).After-accepted_at-piece) - i + 1) + place_of (kept_contents (ps (goal.at.loop-i-preserved c).After-accepted_at-piece)) p) in
-    let e = rw (off, row-entry 32 x.plan.now d.accepted_at-piece.result (16 * (length (ps (goal.at.loop-i-preserved c).After-accepted_at-piece) - i + 1) + place_of (kept_contents (ps (goal.at.loop-i-preserved c).After-accepted_at-piece)) p) n.writable) at c.write_entry.ensures in
-    let fits : 16 * i + length entry ≤ length x.output.now = omega (arith, length-entry_of p (16 * (length (ps (goal.at.loop-i-preserved c).After-accepted_at-piece) - i + 1) + place_of (kept_contents (ps (goal.at.loop-i-preserved c).After-accepted_at-piece)) p), c.requires.3) in
-    let at : 0 + length (front (ps (goal.at.loop-i-preserved c).After-accepted_at-piece) i) ≡ 16 * i = omega (arith, length_front (ps (goal.at.loop-i-preserved c).After-accepted_at-piece) i (omega (arith, c.requires.0.counts))) in (
-      rw (front-next (ps (goal.at.loop-i-preserved c).After-accepted_at-piece) i p n.from (omega (arith, c.requires.0.counts)))
-          (store-behind x.output.now 0 (front (ps (goal.at.loop-i-preserved c).After-accepted_at-piece) i) entry (16 * i) c.loop-i.output _ at fits c.loop-i.invariant.0 e),
-      (c.write_entry.auto.output ∙ c.loop-i.invariant.1.0, omega arith),
-    )
-
-pub overflow_mul-pieces : goal.overflow_mul-pieces
-overflow_mul-pieces c = omega (arith, c.requires.0.few)
-
-pub shape_of-output : goal.shape_of-output
-shape_of-output c = c.put.auto.s ∙ c.loop-i.invariant.1.0
+    let all = ps here in
+    let p = piece_is x.plan.now c.accepted_at-piece.result in
+    let off : 16 * (x.pieces - i + 1) + get_or x.places.now i 0 ≡ 16 * (length all - i + 1) + place_of (kept_contents all) p = omega (arith, c.requires.0.counts, place_is here) in
+    let offset = 16 * (length all - i + 1) + place_of (kept_contents all) p in
+    let entry = entry_of p offset in
+    let e = rw (off, row-entry 32 x.plan.now c.accepted_at-piece.result offset n.writable) at c.write_entry.ensures in
+    let fits : 16 * i + length entry ≤ length x.output.now = omega (arith, length-entry_of p offset, c.requires.3) in
+    let at : 0 + length (front all i) ≡ 16 * i = omega (arith, length_front all i (omega (arith, c.requires.0.counts))) in
+    rw (front-next all i p n.from (omega (arith, c.requires.0.counts))) (store-behind x.output.now 0 (front all i) entry (16 * i) c.loop-i.output _ at fits c.loop-i.invariant e)
 
 pub returns : goal.returns
 returns c = let x = c.args in
@@ -88,5 +67,5 @@ returns c = let x = c.args in
     let e : c.loop-i.i ≡ length ps = omega (arith, c.requires.0.counts) in
     let at : 0 + length (front ps (length ps)) ≡ 16 * x.pieces = omega (arith, length_front ps (length ps) (omega arith), c.requires.0.counts) in
     let fits : 16 * x.pieces + length (four_bytes 0xffffffff 0 0 0) ≤ length x.output.now = omega (arith, length-four_bytes 0xffffffff 0 0 0, c.requires.3) in
-    store-behind x.output.now 0 (front ps (length ps)) (four_bytes 0xffffffff 0 0 0) (16 * x.pieces) c.loop-i.output _ at fits (rw e at c.loop-i.invariant.0) c.put.ensures
+    store-behind x.output.now 0 (front ps (length ps)) (four_bytes 0xffffffff 0 0 0) (16 * x.pieces) c.loop-i.output _ at fits (rw e at c.loop-i.invariant) c.put.ensures
     ∙ ap (store x.output.now 0) (front-all ps)

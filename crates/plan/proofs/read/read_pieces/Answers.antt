@@ -7,13 +7,9 @@ use lib.ListN.{length}
 use Rattle.plan.specs.Plan.{data_of, filled_by, good, piece_at}
 use Rattle.plan.specs.Code.{unit_of, row_is, judged_is, piece_is}
 use Rattle.plan.proofs.CodeLaws.{Lengths, read-lengths}
-use Rattle.plan.proofs.Reading.{counts_start, counts-good, counts-bad, counts_end}
+use Rattle.plan.proofs.Reading.{counts-good, counts-bad, counts_end}
 use Rattle.plan.proofs.read.read_pieces.Goals as goal
 use Rattle.plan.proofs.read.read_pieces.Goals.{In-Ok}
-
-pub loop-i-init : goal.loop-i-init
-loop-i-init c = let x = c.args in
-    (counts_start (unit_of x.target) x.plan.now x.count, omega arith)
 
 -- the piece read is the plan's, and its lengths are
 module _ (c : In-Ok) where

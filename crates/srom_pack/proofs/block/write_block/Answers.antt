@@ -7,7 +7,6 @@ use lib.ListN.{length}
 use Rattle.word_blocks.specs.Swap.{swap_words}
 use Rattle.plan.specs.declared.piece.Piece.TheVariants.{Put, Fill}
 use Rattle.plan.specs.Code.Packer.{Writable}
-use Rattle.plan.proofs.PlanLaws.{data-length}
 use Rattle.srom_pack.specs.Image.{block, block_of}
 use Rattle.srom_pack.proofs.block.write_block.Goals as goal
 use Rattle.srom_pack.proofs.block.write_block.Goals.{In-Fill, In-Put}
@@ -20,20 +19,6 @@ put-fits c = let h = rw c.in-Put.is at c.requires in (h.0, omega arith)
 fill-fits : (c : In-Fill) → let x = c.args in
     Writable 4 x.plan.now (Fill c.in-Fill.address c.in-Fill.length c.in-Fill.word) × (x.at + (7 + c.in-Fill.length) ≤ length x.output.now)
 fill-fits c = let h = rw c.in-Fill.is at c.requires in (h.0, omega arith)
-
-pub slice_bounds-data_block-end : goal.slice_bounds-data_block-end
-slice_bounds-data_block-end c = (put-fits (goal.at.slice_bounds-data_block-end c).In-Put).0.0
-
-pub data_block-requires : goal.data_block-requires
-data_block-requires c = let d = c in
-    let s = d.args.plan.now in
-    let h = put-fits (goal.at.data_block-requires c).In-Put in
-    let e : c.in-Put.from + c.in-Put.length - c.in-Put.from ≡ c.in-Put.length = omega arith in
-    rw (e, data-length s c.in-Put.from c.in-Put.length h.0.0) (h.1, h.0.1, h.0.2)
-
-pub fill_block-requires : goal.fill_block-requires
-fill_block-requires c = let h = fill-fits (goal.at.fill_block-requires c).In-Fill in
-    (h.1, h.0.0, h.0.1)
 
 pub returns-in-Put : goal.returns-in-Put
 unfolding block_of

@@ -1,5 +1,5 @@
--- `aplx_pack::pack::AplxPacker::write` meets its contract: the loop's invariant: the entries and the data before piece `i` are written, and the next data's place is that of piece `i`. The measure is the pieces left.
-use mathlib.Core.Path.{◌≡◌, refl, sym, ◌∙◌}
+-- `aplx_pack::pack::AplxPacker::write` meets its contract: the loop's invariant: the entries and the data before piece `i` are written, and the next data's place is that of piece `i`.
+use mathlib.Core.Path.{◌≡◌, refl, sym}
 use mathlib.Core.List.{List}
 use Prim.Native.Nat.{◌+◌, ◌-◌, ◌*◌, ◌≤◌}
 use native.Mathlib.Omega.{arith}
@@ -30,31 +30,28 @@ module _ (c : After-accepted_at-piece) where
   next-piece = found 32 c.args.plan.now c.type_inv.plan c.requires.0.accepted c.loop-i.i (omega arith) _ c.accepted_at-piece.ensures
 
 pub write_piece-requires : goal.write_piece-requires
-write_piece-requires c = let d = c in
-    let n = next-piece (goal.at.write_piece-requires c).After-accepted_at-piece in
-    (n.writable, omega arith, omega arith, omega (arith, earlier-next n, earlier-most (ps (goal.at.write_piece-requires c).After-accepted_at-piece) (c.loop-i.i + 1), image-end (ps (goal.at.write_piece-requires c).After-accepted_at-piece), c.requires.0.fits))
+write_piece-requires c = let here = (goal.at.write_piece-requires c).After-accepted_at-piece in
+    let n = next-piece here in
+    (n.writable, omega arith, omega arith, omega (arith, earlier-next n, earlier-most (ps here) (c.loop-i.i + 1), image-end (ps here), c.requires.0.fits))
 
 pub overflow_add-place-in-loop-i : goal.overflow_add-place-in-loop-i
 overflow_add-place-in-loop-i c = omega (arith, put-most (next-piece (goal.at.overflow_add-place-in-loop-i c).After-accepted_at-piece), c.put_length-place.ensures)
 
 pub loop-i-preserved : goal.loop-i-preserved
-loop-i-preserved c = let d = c in
-    let n = next-piece (goal.at.loop-i-preserved c).After-accepted_at-piece in
+loop-i-preserved c = let here = (goal.at.loop-i-preserved c).After-accepted_at-piece in
+    let n = next-piece here in
     let x = c.args in
     let i = c.loop-i.i in
     let w = c.write_piece in
-    let fits : data_start (ps (goal.at.loop-i-preserved c).After-accepted_at-piece) + put_bytes (ps (goal.at.loop-i-preserved c).After-accepted_at-piece) ≤ length x.output.now = omega (arith, image-end (ps (goal.at.loop-i-preserved c).After-accepted_at-piece), c.requires.0.fits) in
-    let p = piece_is x.plan.now d.accepted_at-piece.result in
-    let at = length_front (ps (goal.at.loop-i-preserved c).After-accepted_at-piece) i (omega arith) in
+    let fits : data_start (ps here) + put_bytes (ps here) ≤ length x.output.now = omega (arith, image-end (ps here), c.requires.0.fits) in
+    let p = piece_is x.plan.now c.accepted_at-piece.result in
+    let at = length_front (ps here) i (omega arith) in
     let place = c.loop-i.invariant.1.0 in
     let entry = entry_of p (c.loop-i.place - 16 * i) in
-    let more : Written (ps (goal.at.loop-i-preserved c).After-accepted_at-piece) (front (ps (goal.at.loop-i-preserved c).After-accepted_at-piece)) x.output.now w.new.output (i + 1) =
-    rw w.ensures (written-more (ps (goal.at.loop-i-preserved c).After-accepted_at-piece) (front (ps (goal.at.loop-i-preserved c).After-accepted_at-piece)) x.output.now fits i c.loop-i.invariant.0 entry (data_of p) (sym at)
+    let more : Written (ps here) (front (ps here)) x.output.now w.new.output (i + 1) =
+    rw w.ensures (written-more (ps here) (front (ps here)) x.output.now fits i c.loop-i.invariant.0 entry (data_of p) (sym at)
     (omega (arith, length-entry_of p (c.loop-i.place - 16 * i))) place (front-through n _ place) (datas-through n)) in
-    (more, (omega (arith, earlier-next n), (omega (arith, put-most n), length-written (ps (goal.at.loop-i-preserved c).After-accepted_at-piece) (front (ps (goal.at.loop-i-preserved c).After-accepted_at-piece)) x.output.now fits (i + 1) more (omega (arith, length_front (ps (goal.at.loop-i-preserved c).After-accepted_at-piece) (i + 1) (omega arith))))))
-
-pub shape_of-output : goal.shape_of-output
-shape_of-output c = c.put.auto.s ∙ c.loop-i.invariant.1.1.1
+    (more, (omega (arith, earlier-next n), (omega (arith, put-most n), length-written (ps here) (front (ps here)) x.output.now fits (i + 1) more (omega (arith, length_front (ps here) (i + 1) (omega arith))))))
 
 pub returns : goal.returns
 returns c = let x = c.args in

@@ -1,5 +1,5 @@
--- `srom_pack::pack::SromPacker::write` meets its contract: the loop's invariant: behind the pad stand the blocks before piece `i`, and the next place is that of piece `i`. The measure is the pieces left.
-use mathlib.Core.Path.{◌≡◌, refl, sym, ◌∙◌}
+-- `srom_pack::pack::SromPacker::write` meets its contract: the loop's invariant: behind the pad stand the blocks before piece `i`, and the next place is that of piece `i`.
+use mathlib.Core.Path.{◌≡◌, refl, sym}
 use mathlib.Core.List.{List}
 use Prim.Native.Nat.{◌+◌, ◌≤◌, ◌<◌}
 use native.Mathlib.Omega.{arith}
@@ -34,9 +34,9 @@ module _ (c : After-accepted_at-piece) where
   next-inside = omega (arith, block_inside ps (c.loop-i.i + 1))
 
 pub write_block-requires : goal.write_block-requires
-write_block-requires c = let d = c in
-    let n = next-piece (goal.at.write_block-requires c).After-accepted_at-piece in
-    (n.writable, omega (arith, next_place n, next-inside (goal.at.write_block-requires c).After-accepted_at-piece, length-set c.args.output.now 0 0x55))
+write_block-requires c = let here = (goal.at.write_block-requires c).After-accepted_at-piece in
+    let n = next-piece here in
+    (n.writable, omega (arith, next_place n, next-inside here, length-set c.args.output.now 0 0x55))
 
 pub overflow_add-at : goal.overflow_add-at
 overflow_add-at c = omega (arith, (next-piece (goal.at.overflow_add-at c).After-accepted_at-piece).sizes.most)
@@ -45,27 +45,24 @@ pub overflow_add-at-in-loop-i : goal.overflow_add-at-in-loop-i
 overflow_add-at-in-loop-i c = omega (arith, (next-piece (goal.at.overflow_add-at-in-loop-i c).After-accepted_at-piece).sizes.most)
 
 pub overflow_add-at-in-loop-i-2 : goal.overflow_add-at-in-loop-i-2
-overflow_add-at-in-loop-i-2 c = let d = c in omega (arith, next_place (next-piece (goal.at.overflow_add-at-in-loop-i-2 c).After-accepted_at-piece), next-inside (goal.at.overflow_add-at-in-loop-i-2 c).After-accepted_at-piece)
+overflow_add-at-in-loop-i-2 c = let here = (goal.at.overflow_add-at-in-loop-i-2 c).After-accepted_at-piece in omega (arith, next_place (next-piece here), next-inside here)
 
 pub loop-i-preserved : goal.loop-i-preserved
-loop-i-preserved c = let d = c in
-    let n = next-piece (goal.at.loop-i-preserved c).After-accepted_at-piece in
+loop-i-preserved c = let here = (goal.at.loop-i-preserved c).After-accepted_at-piece in
+    let n = next-piece here in
     let x = c.args in
     let i = c.loop-i.i in
     let w = c.write_block in
     let m = set x.output.now 0 0x55 in
-    let fits : length (srom_image (ps (goal.at.loop-i-preserved c).After-accepted_at-piece)) ≤ length m = omega (arith, length-set x.output.now 0 0x55) in
-    let block = block_of (piece_is x.plan.now d.accepted_at-piece.result) in
-    let more : Written (ps (goal.at.loop-i-preserved c).After-accepted_at-piece) m w.new.output (i + 1) =
-    rw w.ensures (written-more (ps (goal.at.loop-i-preserved c).After-accepted_at-piece) m i block fits c.loop-i.invariant.0 c.loop-i.invariant.1.0 (blocks-through n)) in
-    (more, (omega (arith, next_place n), length-written (ps (goal.at.loop-i-preserved c).After-accepted_at-piece) m (i + 1) fits more))
+    let fits : length (srom_image (ps here)) ≤ length m = omega (arith, length-set x.output.now 0 0x55) in
+    let block = block_of (piece_is x.plan.now c.accepted_at-piece.result) in
+    let more : Written (ps here) m w.new.output (i + 1) =
+    rw w.ensures (written-more (ps here) m i block fits c.loop-i.invariant.0 c.loop-i.invariant.1.0 (blocks-through n)) in
+    (more, (omega (arith, next_place n), length-written (ps here) m (i + 1) fits more))
 
 pub bounds-output-at : goal.bounds-output-at
 bounds-output-at c = let x = c.args in
     omega (arith, block_inside (plan_pieces 4 x.plan.now) c.loop-i.i, length-set x.output.now 0 0x55)
-
-pub shape_of-output : goal.shape_of-output
-shape_of-output c = length-set c.loop-i.output c.loop-i.at _ ∙ c.loop-i.invariant.1.1 ∙ length-set c.args.output.now 0 0x55
 
 pub returns : goal.returns
 returns c = let x = c.args in
