@@ -1,5 +1,5 @@
 -- Computed examples of the check (paper 02, C-20).
-use Rattle.std.specs.Prelude.{◌≡◌, ℕ, ◌+◌, List, [], ◌∷◌, ◌++◌, take, replicate, refl}
+use Rattle.std.specs.Prelude.{◌≡◌, ℕ, List, [], ◌∷◌, ◌++◌, take, replicate, refl}
 use Rattle.words.specs.Four.{four_bytes}
 use Rattle.plan.specs.Plan.{Piece, put, fill, run}
 use Rattle.aplx_check.specs.Check.{accepted, refuses, check_pieces, check}

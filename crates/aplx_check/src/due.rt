@@ -21,95 +21,72 @@ const EXEC: u32 = 4;
 const ADDRESSES: u64 = 4294967296;
 
 // The index of the piece that is due, and how many of its bytes are done.
-#[derive(Clone, Copy)]
+#[derive(Clone, Copy, Debug, PartialEq, Eq)]
 pub(crate) struct Due {
     pub index: u32,
     pub done: usize,
 }
 
 // Whether so many bytes can be the next part, where `left` bytes are due at an address.
+#[tactic(auto, unfolding(crate::specs::Check::is_part))]
 fn is_part(address: u64, left: usize, length: u32) -> bool
     ensures { result ≡ is_part address left length }
 {
-    if length == 0 {
-        return false;
-    }
-    if length % 32 != 0 {
-        return false;
-    }
-    if length as usize > left {
-        return false;
-    }
-    address < ADDRESSES
+    length != 0 && length % 32 == 0 && length as usize <= left && address < ADDRESSES
 }
 
 // Whether these bytes stand in the image at an offset, a multiple of 4, behind the end entry.
+#[tactic(auto, unfolding(crate::specs::Check::has_data))]
 fn has_data(image: &[u8], behind: usize, source: u32, bytes: &[u8]) -> bool
     ensures { result ≡ has_data image.now behind source bytes.now }
 {
-    if source % 4 != 0 {
-        return false;
-    }
     let from = source as usize;
-    if from < behind {
-        return false;
-    }
-    if !words::range::fits(from, bytes.len(), image.len()) {
-        return false;
-    }
-    let end = from + bytes.len();
-    words::equal::equal(&image[from..end], bytes)
+    source % 4 == 0
+        && from >= behind
+        && words::range::fits(from, bytes.len(), image.len())
+        && words::equal::equal(&image[from..from + bytes.len()], bytes)
 }
 
 // Whether the entry is a part of a put of which these bytes are due at an address.
+#[tactic(auto, unfolding(crate::specs::Check::is_due))]
 fn is_put_due(image: &[u8], behind: usize, entry: u32, address: u64, bytes: &[u8]) -> bool
     requires { entry ≤ 256 }
     ensures { result ≡ is_due image.now behind (16 * entry) (put address bytes.now) }
 {
     let at = 16 * entry;
     let w = words::four::read(image, at as usize);
-    if w.first != RCOPY {
-        return false;
-    }
-    if w.second as u64 != address {
-        return false;
-    }
-    if !is_part(address, bytes.len(), w.fourth) {
-        return false;
-    }
-    let source = std::num::wrapping_add_u32(at, w.third);
-    let length = w.fourth as usize;
-    has_data(image, behind, source, &bytes[..length])
+    w.first == RCOPY
+        && w.second as u64 == address
+        && is_part(address, bytes.len(), w.fourth)
+        && has_data(
+            image,
+            behind,
+            at.wrapping_add(w.third),
+            &bytes[..w.fourth as usize],
+        )
 }
 
 // Whether the entry is a part of a fill of which so many bytes are due at an address.
+#[tactic(auto, unfolding(crate::specs::Check::is_due))]
 fn is_fill_due(image: &[u8], entry: u32, address: u64, left: usize, word: u32) -> bool
     requires { entry ≤ 256 }
     ensures { (behind : ℕ) → result ≡ is_due image.now behind (16 * entry) (fill address left word) }
 {
     let w = words::four::read(image, 16 * (entry as usize));
-    if w.first != FILL {
-        return false;
-    }
-    if w.second as u64 != address {
-        return false;
-    }
-    if !is_part(address, left, w.third) {
-        return false;
-    }
-    w.fourth == word
+    w.first == FILL
+        && w.second as u64 == address
+        && is_part(address, left, w.third)
+        && w.fourth == word
 }
 
 // Whether the entry is this run.
+#[tactic(auto, unfolding(crate::specs::Check::is_due))]
 fn is_run_due(image: &[u8], entry: u32, address: u32) -> bool
     requires { entry ≤ 256 }
     ensures { (behind : ℕ) → result ≡ is_due image.now behind (16 * entry) (run address) }
 {
     let at = 16 * (entry as usize);
-    if le_word_at(image, at) != EXEC {
-        return false;
-    }
-    le_word_at(image, at + 4) == address
+    le_word_at(image, at) == EXEC && le_word_at(image, at + 4) == address
 }
 
 // Whether the entry is the next part, or the run, of a piece of the plan of which so many bytes are done.
@@ -130,14 +107,12 @@ pub(crate) fn is_due(
             from,
             length,
         } => {
-            let first = from + done;
-            let end = from + length;
             is_put_due(
                 image,
                 behind,
                 entry,
                 address as u64 + done as u64,
-                &plan[first..end],
+                &plan[from + done..from + length],
             )
         }
         Piece::Fill {
@@ -162,17 +137,9 @@ pub(crate) fn part_length(image: &[u8], entry: u32, piece: Piece) -> u32
 {
     let at = 16 * (entry as usize);
     match piece {
-        Piece::Put {
-            address: _,
-            from: _,
-            length: _,
-        } => le_word_at(image, at + 12),
-        Piece::Fill {
-            address: _,
-            length: _,
-            word: _,
-        } => le_word_at(image, at + 8),
-        Piece::Run { address: _ } => 0,
+        Piece::Put { .. } => le_word_at(image, at + 12),
+        Piece::Fill { .. } => le_word_at(image, at + 8),
+        Piece::Run { .. } => 0,
     }
 }
 
@@ -183,13 +150,11 @@ pub(crate) fn after_part(due: Due, length: usize, size: usize) -> Due
 {
     let done = due.done + length;
     if done == size {
-        return Due {
+        Due {
             index: due.index + 1,
             done: 0,
-        };
-    }
-    Due {
-        index: due.index,
-        done,
+        }
+    } else {
+        Due { done, ..due }
     }
 }

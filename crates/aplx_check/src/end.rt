@@ -11,35 +11,22 @@ const MOST_ENTRIES: usize = 256;
 // The command word of an end entry.
 const END_WORD: u32 = 4294967295;
 
-// The index of the end entry, if there is one.
-#[derive(Clone, Copy)]
-pub(crate) enum End {
-    At(u32),
-    None,
-}
-
 // How many of the first 256 entries stand in the image whole.
 pub(crate) fn whole_entries(image: &[u8]) -> u32
     ensures { result ≡ whole_entries image.now }
 {
-    let whole = image.len() / 16;
-    if whole > MOST_ENTRIES {
-        return MOST_ENTRIES as u32;
-    }
-    whole as u32
+    MOST_ENTRIES.min(image.len() / 16) as u32
 }
 
-// The first of so many entries that has the end word.
-pub(crate) fn first_end(image: &[u8], count: u32) -> End
+// The index of the first of so many entries that has the end word.
+pub(crate) fn first_end(image: &[u8], count: u32) -> Option<u32>
     requires { count ≤ 256 }
     ensures { end_is result ≡ first_end image.now count 0 }
 {
-    let mut entry: u32 = 0;
-    while entry < count {
+    for entry in 0..count {
         if le_word_at(image, 16 * (entry as usize)) == END_WORD {
-            return End::At(entry);
+            return Some(entry);
         }
-        entry += 1;
     }
-    End::None
+    None
 }

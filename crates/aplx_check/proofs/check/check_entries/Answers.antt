@@ -1,5 +1,5 @@
 -- `aplx_check::check::check_entries` meets its contract: the check from `entry` on, of what is due there, gives what the whole check gives.
-use Rattle.std.proofs.Common.{◌≡◌, ℕ, suc, ◌+◌, ◌-◌, ◌*◌, ◌<◌, ◌≤◌, true, List, [], length, drop, sym, ap, ◌∙◌, add-one, arith, drop_of_length-le, drop-cons}
+use Rattle.std.proofs.Common.{◌≡◌, ℕ, suc, ◌+◌, ◌*◌, ◌<◌, ◌≤◌, true, List, [], length, drop, sym, ap, ◌∙◌, arith, drop_of_length-le, drop-cons}
 use borrow.Author.Tests.{not-true, not-false}
 use Rattle.plan.specs.Plan.{Piece, run}
 use Rattle.plan.specs.Packed.{plan_pieces}
@@ -8,15 +8,10 @@ use Rattle.plan.proofs.CodeLaws.{Found, found}
 use Rattle.aplx_check.specs.declared.due.Due.{Due}
 use Rattle.aplx_check.specs.Parts.{size_of, rest_of}
 use Rattle.aplx_check.specs.Check.{refuses, is_due, part_length}
-use Rattle.aplx_check.proofs.CheckLaws.{due-none, entry-wrong, entry-late, end-due, end-early}
+use Rattle.aplx_check.proofs.CheckLaws.{entry-wrong, entry-late, end-due, end-early}
 use Rattle.aplx_check.proofs.CodeLaws.{size-sum, piece_due, piece-due, part-ends, due-next}
 use Rattle.aplx_check.proofs.check.check_entries.Goals as goal
 use Rattle.aplx_check.proofs.check.check_entries.Goals.{After-accepted_at-piece, After-part_length-length}
-
-pub loop-entry-init : goal.loop-entry-init
-loop-entry-init c = let x = c.args in
-    let e : x.end - 0 ≡ x.end = omega arith in
-    (omega arith, (omega arith, omega arith), rw (e, add-one x.end, due-none (plan_pieces 1 x.plan.now)))
 
 -- no piece is left
 none_left : (ps : List Piece) (i n : ℕ) → i ≡ n → n ≡ length ps → drop i ps ≡ []
@@ -28,7 +23,7 @@ returns-then-due-count c = let k = c in
     let l = k.loop-entry in
     let ps = plan_pieces 1 x.plan.now in
     let e = none_left ps l.due.index x.count c.if-due-count.true k.requires.0.counts in
-    let i = rw e at l.invariant.2 in
+    let i = rw e at l.invariant.1 in
     c.refused_at.ensures ∙ sym (entry-late x.image.now (16 * (x.end + 1)) x.end l.entry 0 ps (omega arith)) ∙ i
 
 -- the piece that is due
@@ -65,7 +60,7 @@ returns-then-not-is_due c = let d = c in
     let w = sym c.is_due.ensures ∙ not-true _ c.if-not-is_due.true-raw in
     let e = entry-wrong x.image.now (16 * (x.end + 1)) x.end l.entry l.due.done (drop (suc l.due.index) (ps (goal.at.returns-then-not-is_due c).After-accepted_at-piece)) (omega arith)
     (piece_is x.plan.now d.accepted_at-piece.result) w in
-    c.refused_at-then-not-is_due.ensures ∙ sym e ∙ (rw (found_here (goal.at.returns-then-not-is_due c).After-accepted_at-piece).from at l.invariant.2)
+    c.refused_at-then-not-is_due.ensures ∙ sym e ∙ (rw (found_here (goal.at.returns-then-not-is_due c).After-accepted_at-piece).from at l.invariant.1)
 
 -- the entry is what is due
 module _ (c : After-part_length-length)
@@ -87,11 +82,8 @@ module _ (c : After-part_length-length)
     ends-here size =
         let x = c.args in
         let l = c.loop-entry in
-        let e = part-ends x.image.now (16 * (x.end + 1)) x.end l.entry (omega arith) (plan_pieces 1 x.plan.now) l.due more-left is-due-here l.invariant.1.1 in
+        let e = part-ends x.image.now (16 * (x.end + 1)) x.end l.entry (omega arith) (plan_pieces 1 x.plan.now) l.due more-left is-due-here l.invariant.0.1 in
         omega (arith, size, length_here, e)
-
-pub overflow_add-put_length : goal.overflow_add-put_length
-overflow_add-put_length c = let f = (found_here (goal.at.overflow_add-put_length c).After-accepted_at-piece).sizes.most in omega arith
 
 pub after_part-due-requires : goal.after_part-due-requires
 after_part-due-requires c =
@@ -106,10 +98,10 @@ loop-entry-preserved c =
     let f = (goal.at.loop-entry-preserved c).After-part_length-length in
     let x = c.args in
     let l = c.loop-entry in
-    let a = due-next x.image.now (16 * (x.end + 1)) x.end l.entry (omega arith) (ps d) (due d) (more d) (is-due-here f (more d) (is-piece d)) l.invariant.1.1 in
+    let a = due-next x.image.now (16 * (x.end + 1)) x.end l.entry (omega arith) (ps d) (due d) (more d) (is-due-here f (more d) (is-piece d)) l.invariant.0.1 in
     let s : c.put_length.result + c.fill_length.result ≡ size_of (piece_due (ps d) (due d)) = omega (arith, size-here d) in
     let e = rw (length_here f (more d) (is-piece d), s) at c.after_part-due.ensures in
-    (omega arith, rw e a.within, rw e (sym a.same ∙ l.invariant.2))
+    (rw e a.within, rw e (sym a.same ∙ l.invariant.1))
 
 pub returns-then-due-count-2 : goal.returns-then-due-count-2
 returns-then-due-count-2 c = let l = c.loop-entry in
@@ -117,7 +109,7 @@ returns-then-due-count-2 c = let l = c.loop-entry in
     let x = k.args in
     let ps = plan_pieces 1 x.plan.now in
     let e = none_left ps l.due.index x.count c.if-due-count-2.true k.requires.0.counts in
-    sym (end-due x.image.now (16 * (x.end + 1)) x.end l.entry 0 ps (omega arith)) ∙ (rw e at l.invariant.2)
+    sym (end-due x.image.now (16 * (x.end + 1)) x.end l.entry 0 ps (omega arith)) ∙ (rw e at l.invariant.1)
 
 pub returns : goal.returns
 returns c = let l = c.loop-entry in
@@ -126,7 +118,7 @@ returns c = let l = c.loop-entry in
     let ps = plan_pieces 1 x.plan.now in
     let p = piece_due ps l.due in
     let h : l.due.index < length ps = omega (arith, k.requires.0.counts, c.if-due-count-2.false) in
-    let e = rw (drop-cons ps l.due.index (run 0) h) at l.invariant.2 in
+    let e = rw (drop-cons ps l.due.index (run 0) h) at l.invariant.1 in
     let z : l.entry ≡ x.end = omega arith in
     c.refused_at-2.ensures ∙ ap (refuses 30) (sym z)
     ∙ sym (end-early x.image.now (16 * (x.end + 1)) x.end l.entry l.due.done (drop (suc l.due.index) ps) (omega arith) p) ∙ e
