@@ -2,6 +2,7 @@
 ghost use Rattle.std.specs.Prelude.{◌≡◌, ◌*◌, length};
 ghost use Rattle.file_bytes.specs.Counts.{IsPrefixLen};
 ghost use Rattle.words.specs.Store.{store};
+ghost use Rattle.outcome.specs.Refusal.{number_of};
 ghost use Rattle.plan.specs.Plan.{refused};
 ghost use Rattle.compare.specs.Reading.{addresses, read_compared};
 ghost use Rattle.compare.specs.Compare.{refuses, most_stretches, stretch_size, compared_below, compared};
@@ -10,9 +11,8 @@ ghost use Rattle.comparison.specs.Lines.{compared_files, printed_for, refused_pl
 ghost use Rattle.comparison.specs.Code.{Prints, Bounded, shown_of};
 
 use crate::lines::{LINE_SIZE, put_lines};
-use compare::compare::{Compared, MOST_STRETCHES, OUTPUT_SIZE, Which};
-use compare::reading::Reading;
-use plan::piece::PLAN_MALFORMED;
+use compare::compare::{Found, MOST_STRETCHES, OUTPUT_SIZE, Refused, Side};
+use outcome::refusal::{Cause, Refusal};
 
 // The bytes that a plan has at most.
 pub(crate) const LONGEST_PLAN: usize = 32768;
@@ -20,36 +20,35 @@ pub(crate) const LONGEST_PLAN: usize = 32768;
 // The bytes of the longest text: as many lines as there can be, and `other run`.
 pub const LONGEST_TEXT: usize = LINE_SIZE * MOST_STRETCHES + 10;
 
-// The length of the text, and the plan that is refused.
-#[derive(Clone, Copy)]
+// The length of the text, and the plan that is refused, if one is.
+#[derive(Clone, Copy, Debug, PartialEq, Eq)]
 pub struct Printed {
     pub size: usize,
-    pub refused: Which,
+    pub refused: Option<Side>,
 }
 
 // The line of a refusal.
-fn refuse(which: Which, number: u32, place: usize, text: &mut [u8; LONGEST_TEXT]) -> Printed
-    ensures { Prints (refuses (which_is which) number place) text.old result text.new }
+fn refuse(which: Option<Side>, refusal: Refusal, text: &mut [u8; LONGEST_TEXT]) -> Printed
+    ensures { Prints (refuses (which_is which) (number_of refusal.cause) refusal.place) text.old result text.new }
 {
+    let number = refusal.cause.number();
     Printed {
-        size: text::refusal::put(text, number as u64, place as u64),
+        size: text::refusal::put(text, number as u64, refusal.place as u64),
         refused: which,
     }
 }
 
 // The lines of what was found, or the line of the refusal.
-fn show(answer: Compared, stretches: &[u8], text: &mut [u8; LONGEST_TEXT]) -> Printed
+fn show(answer: Result<Found, Refused>, stretches: &[u8], text: &mut [u8; LONGEST_TEXT]) -> Printed
     requires { Bounded (outcome_is answer) }
     ensures { Prints (shown_of (outcome_is answer) stretches.now) text.old result text.new }
 {
     match answer {
-        Compared::Found { count, same_run } => Printed {
-            size: put_lines(text, stretches, count, same_run),
-            refused: Which::Neither,
+        Ok(found) => Printed {
+            size: put_lines(text, stretches, found.count, found.same_run),
+            refused: None,
         },
-        Compared::Refused { which, refusal } => {
-            refuse(which, refusal.number, refusal.place, text)
-        }
+        Err(refused) => refuse(refused.which, refused.refusal, text),
     }
 }
 
@@ -67,8 +66,8 @@ fn refuse_new(old: &[u8], text: &mut [u8; LONGEST_TEXT]) -> Printed
     ensures { Prints (compared_below addresses (read_compared old.now) (refused 11 0)) text.old result text.new }
 {
     match compare::reading::read(old) {
-        Reading::Refused(refusal) => refuse(Which::Old, refusal.number, refusal.place, text),
-        Reading::Pieces { count: _ } => refuse(Which::New, PLAN_MALFORMED, 0, text),
+        Ok(_) => refuse(Some(Side::New), Cause::PlanMalformed.at(0), text),
+        Err(refusal) => refuse(Some(Side::Old), refusal, text),
     }
 }
 
@@ -80,7 +79,7 @@ pub fn compare_text(old: &[u8], new: &[u8], text: &mut [u8; LONGEST_TEXT]) -> Pr
     ensures prefix_len { IsPrefixLen result.size text.new }
 {
     if old.len() > LONGEST_PLAN {
-        return refuse(Which::Old, PLAN_MALFORMED, 0, text);
+        return refuse(Some(Side::Old), Cause::PlanMalformed.at(0), text);
     }
     if new.len() > LONGEST_PLAN {
         return refuse_new(old, text);

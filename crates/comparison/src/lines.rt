@@ -58,14 +58,12 @@ fn put_stretches(text: &mut [u8], stretches: &[u8], count: usize)
     requires { (count ≤ most_stretches) × (24 * count ≤ length text.old) }
     ensures { text.new ≡ store text.old 0 (stretch_lines (stretches_in count stretches.now)) }
 {
-    let mut i: usize = 0;
-    while i < count {
+    for i in 0..count {
         put_line(
             text,
             i * LINE_SIZE,
             words::four::read(stretches, i * STRETCH_SIZE),
         );
-        i += 1;
     }
 }
 

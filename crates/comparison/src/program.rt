@@ -3,7 +3,7 @@ ghost use Rattle.file_bytes.specs.Counts.{IsPrefixLen};
 ghost use Rattle.comparison.specs.Code.{FromFiles};
 
 use crate::comparison::{LONGEST_PLAN, LONGEST_TEXT, Printed};
-use compare::compare::Which;
+use compare::compare::Side;
 use std::rt::Files;
 
 // The bytes of a file, as many as fit, at the buffer's front; none where it can't be opened, as by a name that is no text. Answers their number.
@@ -33,14 +33,14 @@ pub fn compare_files<R: Files>(
     crate::comparison::compare_text(&old[..old_size], &new[..new_size], text)
 }
 
-// The line that names the plan that is refused.
-pub fn write_refused<P: Print>(file: &P, refused: Which) {
+// The line that names the plan that is refused, if one is.
+pub fn write_refused<P: Print>(file: &P, refused: Option<Side>) {
     match refused {
-        Which::Neither => {}
-        Which::Old => {
+        None => {}
+        Some(Side::Old) => {
             let _ = file.write_all(b"old is refused\n");
         }
-        Which::New => {
+        Some(Side::New) => {
             let _ = file.write_all(b"new is refused\n");
         }
     }
@@ -50,10 +50,8 @@ pub fn write_refused<P: Print>(file: &P, refused: Which) {
 pub fn run<R: Files + Print, E: Print>(rt: &R, errors: &E) {
     let mut text = [0u8; LONGEST_TEXT];
     let printed = compare_files(rt, b"old", b"new", &mut text);
-    let size = printed.size;
-    if rt.write_all(&text[..size]).is_err() {
+    if rt.write_all(&text[..printed.size]).is_err() {
         let _ = errors.write_all(b"the output was not written whole\n");
     }
-    let refused = printed.refused;
-    write_refused(errors, refused);
+    write_refused(errors, printed.refused);
 }
