@@ -1,4 +1,6 @@
 // The byte strings of the calls, as a line writes them and as a call leaves them.
+ghost use Rattle.std.specs.Prelude.{◌<◌, IfSome};
+
 use crate::arguments::{decimal, split_once};
 use arrayvec::ArrayVec;
 
@@ -30,7 +32,10 @@ impl Buffers {
     }
 }
 
-fn hex_digit(character: u8) -> Option<u8> {
+// The value of a hex digit.
+fn hex_digit(character: u8) -> Option<u8>
+    ensures { IfSome result (λ digit. digit < 16) }
+{
     match character {
         b'0'..=b'9' => Some(character - b'0'),
         b'a'..=b'f' => Some(character - b'a' + 10),

@@ -6,10 +6,7 @@ use reidhintsje::message::reidhintsje_flood_fill_block_end;
 use std::io;
 
 // Makes a call, and writes what it answered and the receiver that it left.
-pub(crate) fn left<
-    R: Print,
-    F: FnOnce(&mut [u8; RECEIVER], &mut [u8], &mut [u64; 8]) -> u32,
->(
+pub(crate) fn left<R: Print, F: FnOnce(&mut [u8; RECEIVER], &mut [u8], &mut [u64; 8]) -> u32>(
     rt: &R,
     buffers: &mut Buffers,
     call: F,
@@ -20,9 +17,9 @@ pub(crate) fn left<
     let Some(receiver) = buffers.table.as_mut_array::<RECEIVER>() else {
         return Ok(());
     };
-    let image = buffers.memory.as_mut_slice();
-    let answer = Answer::of(|outcome| call(receiver, image, outcome));
-    println!(rt; "{answer}\n{}", Hex(receiver))
+    let mut outcome = [0; 8];
+    let number = call(receiver, &mut buffers.memory, &mut outcome);
+    println!(rt; "{}\n{}", Answer { number, outcome }, Hex(receiver))
 }
 
 pub(crate) fn block_end<R: Print>(rt: &R, buffers: &mut Buffers, block: u32) -> io::Result<()> {

@@ -75,14 +75,9 @@ pub(crate) fn written<R: Print, F: FnOnce(&[u8], &mut [u8], &mut [u64; 8]) -> u3
 ) -> io::Result<()>
     requires { F.IsAlwaysCallable call }
 {
-    let Buffers {
-        table: _,
-        memory: _,
-        output,
-        input,
-    } = buffers;
-    let answer = Answer::of(|outcome| call(input, output, outcome));
-    println!(rt; "{answer}\n{}", Hex(output))
+    let mut outcome = [0; 8];
+    let number = call(&buffers.input, &mut buffers.output, &mut outcome);
+    println!(rt; "{}\n{}", Answer { number, outcome }, Hex(&buffers.output))
 }
 
 pub(crate) fn compare<R: Print>(rt: &R, buffers: &mut Buffers) -> io::Result<()> {

@@ -1,9 +1,8 @@
 // One line after the other.
-use crate::arguments::{Arguments, split_once};
 use crate::bytes::Buffers;
-use crate::call;
 use crate::call::Call;
 use crate::make::make;
+use crate::read;
 use std::io;
 
 // What a line asks.
@@ -13,15 +12,14 @@ enum Line<'a> {
     Call { name: &'a [u8], call: Call },
 }
 
-fn read<'a>(line: &'a [u8], buffers: &mut Buffers) -> Option<Line<'a>> {
+fn asked<'a>(line: &'a [u8], buffers: &mut Buffers) -> Option<Line<'a>> {
     if line.is_empty() || line[0] == b'#' {
         return Some(Line::Nothing);
     }
     if let Some(name) = line.strip_prefix(b": ") {
         return Some(Line::Name(name));
     }
-    let (name, arguments) = split_once(line, b' ')?;
-    let call = call::read(name, &mut Arguments::new(arguments), buffers)?;
+    let (name, call) = read::call(line, buffers)?;
     Some(Line::Call { name, call })
 }
 
@@ -45,7 +43,7 @@ fn answer<R: Print>(rt: &R, line: Line, buffers: &mut Buffers) -> io::Result<()>
 pub(crate) fn all<R: Print>(rt: &R, text: &[u8]) -> io::Result<bool> {
     let mut buffers = Buffers::new();
     for (index, line) in text.split(|byte| *byte == b'\n').enumerate() {
-        match read(line, &mut buffers) {
+        match asked(line, &mut buffers) {
             Some(line) => answer(rt, line, &mut buffers)?,
             None => {
                 println!(rt; "not a call: line {}", index + 1)?;

@@ -8,7 +8,8 @@ use std::rt::Files;
 
 mod bytes; // the byte strings of the calls
 mod arguments; // the arguments of a line
-mod call; // which call a line names, with its numbers
+mod call; // the calls
+mod read; // which call a line names, and its arguments
 mod lines; // one line after the other
 mod make; // makes a call
 mod library; // the calls of the library for C
