@@ -12,9 +12,8 @@ ghost use Rattle.outcome_numbers.specs.Numbers.{first, pack_numbers};
 ghost use Rattle.outcome_numbers.specs.Numbers.Laws.{too_small};
 ghost use Rattle.reidhintsje.specs.Calls.{unit_at, read_call, srom_pack_call, aplx_pack_call, aplx_shared_pack_call, aplx_read_call, aplx_check_call};
 
-use outcome::answer::OUTPUT_TOO_SMALL;
+use outcome::refusal::{Cause, Refusal};
 use outcome_numbers::numbers::{checked_parts, packed_parts, put, read_parts};
-use plan::packed::Answer;
 use plan::piece::Target;
 
 // Targets; any other number is any medium.
@@ -44,49 +43,24 @@ pub fn reidhintsje_plan_read(plan: &[u8], target: u32, outcome: &mut [u64; 8]) -
 }
 
 // Whether the output was too small for what was to be written.
-fn too_small(answer: Answer) -> bool
+fn too_small(answer: Result<usize, Refusal>) -> bool
     ensures { result ≡ too_small (packer.outcome_is answer) }
 {
-    match answer {
-        Answer::Refused(refusal) => refusal.number == OUTPUT_TOO_SMALL,
-        Answer::Packed { size: _ } => false,
-    }
-}
-
-// The length of a plan's serial ROM image, or 0 where the plan is refused.
-fn srom_length(plan: &[u8]) -> u64
-    ensures { result ≡ written_length srom_image (read_plan 4 plan.now) }
-{
-    match plan::read::read(plan, Target::Srom) {
-        plan::read::Answer::Refused(_) => 0,
-        plan::read::Answer::Pieces { count, puts, fills } => {
-            (2 + 7 * count + puts + fills) as u64
-        }
-    }
-}
-
-// The length of a plan's APLX image, or 0 where the plan is refused.
-fn aplx_length(plan: &[u8]) -> u64
-    ensures { result ≡ written_length aplx_image (read_plan 32 plan.now) }
-{
-    match plan::read::read(plan, Target::Aplx) {
-        plan::read::Answer::Refused(_) => 0,
-        plan::read::Answer::Pieces {
-            count,
-            puts,
-            fills: _,
-        } => (16 * (count + 1) + puts) as u64,
-    }
+    answer.is_err_and(|refusal| refusal.cause == Cause::OutputTooSmall)
 }
 
 // Puts what a packer answered. Where the output was too small the length that it asks for is counted.
-fn put_packed<F: FnOnce() -> u64>(answer: Answer, length: F, outcome: &mut [u64; 8]) -> u32
+fn put_packed<F: FnOnce() -> usize>(
+    answer: Result<usize, Refusal>,
+    length: F,
+    outcome: &mut [u64; 8],
+) -> u32
     requires { F.IsAlwaysCallable length }
     ensures value { result ≡ first outcome.new }
     ensures outcome_after { (k : ℕ) → ((n : ℕ) → F.post length n → n ≡ k) → outcome.new ≡ pack_numbers k (packer.outcome_is answer) }
 {
     let needed = if too_small(answer) { length() } else { 0 };
-    put(outcome, packed_parts(answer, needed))
+    put(outcome, packed_parts(answer, needed as u64))
 }
 
 // Packs a plan as a serial ROM image at the output's front. A plan whose image does not fit is read once more for the image's length.
@@ -96,7 +70,7 @@ pub fn reidhintsje_pack_srom(plan: &[u8], output: &mut [u8], outcome: &mut [u64;
     ensures output_after { output.new ≡ (srom_pack_call plan.now output.old).output }
 {
     let answer = srom_pack::pack::pack(plan, output);
-    put_packed(answer, || srom_length(plan), outcome)
+    put_packed(answer, || srom_pack::pack::image_length(plan), outcome)
 }
 
 // Packs a plan as an APLX image at the output's front. A plan whose image does not fit is read once more for the image's length.
@@ -106,7 +80,7 @@ pub fn reidhintsje_pack_aplx(plan: &[u8], output: &mut [u8], outcome: &mut [u64;
     ensures output_after { output.new ≡ (aplx_pack_call plan.now output.old).output }
 {
     let answer = aplx_pack::pack::pack(plan, output);
-    put_packed(answer, || aplx_length(plan), outcome)
+    put_packed(answer, || aplx_pack::pack::image_length(plan), outcome)
 }
 
 // Packs a plan as an APLX image that keeps one copy of equal put data, at the output's front. A plan whose image does not fit is read once
@@ -119,23 +93,9 @@ pub fn reidhintsje_pack_aplx_shared(plan: &[u8], output: &mut [u8], outcome: &mu
     let answer = aplx_share::pack::pack(plan, output);
     put_packed(
         answer,
-        || aplx_share::pack::image_length(plan) as u64,
+        || aplx_share::pack::image_length(plan),
         outcome,
     )
-}
-
-// The length of an image's plan, or 0 where the image is refused.
-fn plan_length(image: &[u8]) -> u64
-    ensures { result ≡ written_length plan_bytes (read_image image.now) }
-{
-    match aplx_read::image::read(image) {
-        plan::read::Answer::Refused(_) => 0,
-        plan::read::Answer::Pieces {
-            count,
-            puts,
-            fills: _,
-        } => (16 * (count + 1) + puts) as u64,
-    }
 }
 
 // Reads an APLX image back as a plan at the output's front. An image whose plan does not fit is read once more for the plan's length.
@@ -145,7 +105,7 @@ pub fn reidhintsje_aplx_read(image: &[u8], output: &mut [u8], outcome: &mut [u64
     ensures output_after { output.new ≡ (aplx_read_call image.now output.old).output }
 {
     let answer = aplx_read::read_back::read_back(image, output);
-    put_packed(answer, || plan_length(image), outcome)
+    put_packed(answer, || aplx_read::read_back::plan_length(image), outcome)
 }
 
 // Checks an APLX image against a plan.

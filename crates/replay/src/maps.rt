@@ -1,6 +1,5 @@
 // The questions that a map alone answers. The library for C has no call for them.
 use map_table::table::map_of;
-use memory_map::map::{Found, RunEntry};
 use memory_region::region::Right;
 use outcome::answer::Entry;
 use std::io;
@@ -13,15 +12,15 @@ pub(crate) fn lookup<R: Print>(
     length: u64,
 ) -> io::Result<()> {
     match map_of(table).lookup(right, address, length) {
-        Found::At(place) => println!(rt; "0 {place}"),
-        Found::Refused(number) => println!(rt; "{number} 0"),
+        Ok(place) => println!(rt; "0 {place}"),
+        Err(cause) => println!(rt; "{} 0", cause.number()),
     }
 }
 
 pub(crate) fn run_entry<R: Print>(rt: &R, table: &[u8], address: u32) -> io::Result<()> {
     match map_of(table).run_entry(address) {
-        RunEntry::Legal(Entry::Arm(address)) => println!(rt; "0 1 {address}"),
-        RunEntry::Legal(Entry::Thumb(address)) => println!(rt; "0 2 {address}"),
-        RunEntry::Refused(number) => println!(rt; "{number} 0 0"),
+        Ok(Entry::Arm(address)) => println!(rt; "0 1 {address}"),
+        Ok(Entry::Thumb(address)) => println!(rt; "0 2 {address}"),
+        Err(cause) => println!(rt; "{} 0 0", cause.number()),
     }
 }
