@@ -1,9 +1,8 @@
 -- Steps of the commands carried out.
-use mathlib.Core.Path.{◌≡◌, refl, ap, ◌∙◌}
+use mathlib.Core.Path.{◌≡◌, ap, ◌∙◌}
 use mathlib.Core.Bool.{false}
 use mathlib.Core.List.{List}
 use Prim.Native.Nat.{ℕ, suc, ◌+◌, ◌-◌, ◌*◌, ◌≤◌, ◌<◌}
-use native.Mathlib.Nat.{sub-zero}
 use native.Mathlib.Omega.{arith}
 use lib.ListN.{length}
 use Rattle.memory_region.specs.declared.region.Right.TheVariants.{Read}
@@ -38,10 +37,6 @@ pub record Next (find : Lookup) (m₀ : List ℕ) (h k : ℕ) (m : List ℕ) (a 
   pub below : a + 16 ≤ 4294967280
   pub performable : Performable find (entry_at find m a)
   pub progress : Progress find m₀ h k (perform find (entry_at find m a) m) (a + 16) (i + 1)
-
-pub start : (find : Lookup) (m : List ℕ) (h k : ℕ) → Progress find m h k m h 0
-start find m h k =
-    record { address = omega arith; bound = omega arith; size = refl; rest = simp sub-zero; kept = λ j x y. refl }
 
 module _ {find : Lookup} {m₀ : List ℕ} {h k : ℕ} {m : List ℕ} {a i : ℕ} (g : Progress find m₀ h k m a i) where
   pub finished : k ≤ i → m ≡ perform_all find (commands find m₀ h k) m₀

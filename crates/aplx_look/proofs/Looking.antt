@@ -1,15 +1,14 @@
 -- What the tests of an image answer, from how the walk over its entries ended.
 use mathlib.Core.Path.{◌≡◌}
 use mathlib.Core.List.{List}
-use Prim.Native.Nat.{ℕ, suc, ◌*◌, ◌%◌, ◌<◌}
-use borrow.Author.Tests.{eq-eqb}
+use Prim.Native.Nat.{ℕ, suc, ◌*◌, ◌<◌}
 use Rattle.outcome.specs.Outcome.{Stop, Ending, stops, outcome_at}
 use Rattle.outcome.specs.Destinations.{stored_in}
 use Rattle.memory_map.specs.Lookup.{Lookup}
 use Rattle.aplx_look.specs.Walk.{Walk, walk, commands}
 use Rattle.aplx_look.specs.Walk.Laws.{Passed}
 use Rattle.aplx_look.proofs.WalkLaws.{walk-passed, stop-count, length-commands}
-use Rattle.aplx_look.specs.Look.{destinations, header_test, look_of, look, outcome_of_look}
+use Rattle.aplx_look.specs.Look.{destinations, header_test, look_of, outcome_of_look}
 
 -- the header address is h
 module _ (find : Lookup) (m : List ℕ) (h : ℕ) where
@@ -26,7 +25,3 @@ module _ (find : Lookup) (m : List ℕ) (h : ℕ) where
 
     pub few-before : {s : Stop} → w.ending ≡ stops s → w.count < 256
     few-before e = rw walked (stop-count find m h (rw walked at e))
-
-    pub look-outcome : h % 4 ≡ 0 → {x : Ending} → w.ending ≡ x → outcome_of_look (look find m h) ≡ outcome_of_look (look_of h (commands find m h w.count) x)
-    unfolding look
-    look-outcome aligned e = rw (← e, walked) (simp (eq-eqb (h % 4) 0 aligned))

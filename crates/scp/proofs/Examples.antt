@@ -1,5 +1,5 @@
 -- Computed examples of SCP answers (paper 01, "SCP" and "Bench pieces with known weight").
-use Rattle.std.specs.Prelude.{◌≡◌, refl, true, List, [], ◌∷◌, ◌++◌, ℕ, length, take, replicate}
+use Rattle.std.specs.Prelude.{◌≡◌, refl, true, List, [], ◌∷◌, ◌++◌, ℕ, take, replicate}
 use Rattle.words.specs.Bytes.{little_endian}
 use Rattle.outcome.specs.Outcome.{arm, thumb}
 use Rattle.memory_map.specs.declared.map.Map.{Map}

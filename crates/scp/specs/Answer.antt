@@ -1,5 +1,5 @@
 -- What a packet is answered (paper 01, "SCP").
-use Rattle.std.specs.Prelude.{true, false, not, List, [], ◌++◌, ℕ, ◌+◌, ltb, eqb, length, take, drop, if◌then◌else◌}
+use Rattle.std.specs.Prelude.{true, false, not, List, [], ◌++◌, ℕ, ltb, eqb, length, take, drop, if◌then◌else◌}
 use Rattle.words.specs.Store.{store}
 use Rattle.memory_region.specs.declared.region.Right.TheVariants.{Read, Write}
 use Rattle.memory_map.specs.declared.map.Map.{Map}

@@ -3,14 +3,16 @@ ghost use Rattle.std.specs.Prelude.{◌≡◌, true, ◌≤◌, length};
 ghost use Rattle.memory_map.specs.Map.{sound};
 ghost use Rattle.memory_map.specs.Lookup.{lookup};
 ghost use Rattle.scp.specs.Answer.{answered, command, scp_answer};
-ghost use Rattle.scp.specs.Code.{reply_of};
+ghost use Rattle.scp.specs.Code.{reply_of, answered_of};
 
+use crate::reply::{coded, version};
 use memory_map::map::Map;
-use memory_map::refusal::MAP_NOT_SOUND;
-use outcome::answer::{Entry, OUTPUT_TOO_SMALL, Refusal};
+use outcome::answer::Entry;
+use outcome::refusal::{Cause, Refusal};
+use scp_packet::packet::ReturnCode;
 
 // What a VER packet is told.
-#[derive(Clone, Copy)]
+#[derive(Clone, Copy, Debug, PartialEq, Eq)]
 pub struct Identity {
     pub point_to_point: u16,
     pub physical_cpu: u8,
@@ -19,74 +21,63 @@ pub struct Identity {
     pub date: u32,
 }
 
-// What a packet comes to: a refusal; no response; a response of so many bytes at the output's front; a run to be started; or a run
-// at which an APLX load stopped, with the header address of the load that goes on after it.
-#[derive(Clone, Copy)]
+// What a packet comes to: no response; a response of so many bytes at the output's front; a run to be started; or a run at which an APLX
+// load stopped, with the header address of the load that goes on after it.
+#[derive(Clone, Copy, Debug, PartialEq, Eq)]
 pub enum Reply {
-    Refused(Refusal),
     Silent,
     Response { size: usize },
     Run { entry: Entry },
     Load { entry: Entry, resume: u32 },
 }
 
-// A packet of 4 to 272 bytes.
-fn answer_command(
+// What a packet of at least 4 bytes commands. An error is answered by its return code alone, as is a plain `Okay`.
+#[tactic(auto, unfolding(crate::specs::Answer::command))]
+fn command(
     map: Map,
     memory: &mut [u8],
     identity: Identity,
     packet: &[u8],
     output: &mut [u8],
-) -> Reply
-    requires { (4 ≤ length packet.now) × (length packet.now ≤ 272) × (272 ≤ length output.old) × (sound map (length memory.old) ≡ true) }
-    ensures { record { reply = reply_of result; memory = memory.new; output = output.new } ≡ answered (command (lookup map) identity packet.now memory.old) output.old }
+) -> Result<Reply, ReturnCode>
+    requires { (4 ≤ length packet.now) × (272 ≤ length output.old) × (sound map (length memory.old) ≡ true) }
+    ensures { answered_of result packet.now memory.new output.new ≡ answered (command (lookup map) identity packet.now memory.old) output.old }
 {
-    let code = words::read::le_half(packet);
-    if code == 0 {
-        return crate::reply::version(identity, packet, output);
+    match words::read::le_half(packet) {
+        0 => Ok(version(identity, packet, output)),
+        1 => crate::run::run(map, packet),
+        2 => crate::transfer::read(map, memory, packet, output),
+        3 => crate::transfer::write(map, memory, packet),
+        4 => crate::run::load(map, memory, packet),
+        _ => Err(ReturnCode::BadCommand),
     }
-    if code == 1 {
-        return crate::run::run(map, packet, output);
-    }
-    if code == 2 {
-        return crate::transfer::read(map, memory, packet, output);
-    }
-    if code == 3 {
-        return crate::transfer::write(map, memory, packet, output);
-    }
-    if code == 4 {
-        return crate::run::load(map, memory, packet, output);
-    }
-    crate::reply::coded(0x83, packet, output)
 }
 
 // Answers a packet. The output must hold 272 bytes; what lies past the response is left as it was.
+#[tactic(auto, unfolding(crate::specs::Answer::scp_answer, crate::specs::Answer::reaction, crate::specs::Answer::packet), using(crate::proofs::AnswerLaws::no_response, crate::proofs::AnswerLaws::coded_answer))]
 pub fn answer(
     map: Map,
     memory: &mut [u8],
     identity: Identity,
     packet: &[u8],
     output: &mut [u8],
-) -> Reply
+) -> Result<Reply, Refusal>
     ensures { record { reply = reply_of result; memory = memory.new; output = output.new } ≡ scp_answer map identity packet.now memory.old output.old }
 {
     if output.len() < 272 {
-        return Reply::Refused(Refusal {
-            number: OUTPUT_TOO_SMALL,
-            place: 0,
-        });
+        return Err(Cause::OutputTooSmall.at(0));
     }
     if !map.sound(memory.len()) {
-        return Reply::Refused(Refusal {
-            number: MAP_NOT_SOUND,
-            place: 0,
-        });
+        return Err(Cause::MapNotSound.at(0));
     }
     if packet.len() < 4 {
-        return Reply::Silent;
+        return Ok(Reply::Silent);
     }
     if packet.len() > 272 {
-        return crate::reply::coded(0x81, packet, output);
+        return Ok(coded(ReturnCode::BadLength, packet, output));
     }
-    answer_command(map, memory, identity, packet, output)
+    match command(map, memory, identity, packet, output) {
+        Ok(reply) => Ok(reply),
+        Err(code) => Ok(coded(code, packet, output)),
+    }
 }

@@ -1,4 +1,4 @@
-// SCP packets: their numbers, and the tests of READ and WRITE.
+// SCP packets: return codes, and the tests of READ and WRITE.
 #![tactic(auto)]
 
-pub mod packet; // the numbers of a packet
+pub mod packet; // return codes, and the tests of READ and WRITE

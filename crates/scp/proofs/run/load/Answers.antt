@@ -1,24 +1,44 @@
 -- `scp::run::load` meets its contract: the load's promise gives its outcome and memory.
-use mathlib.Core.Path.{sym}
-use native.Mathlib.Omega.{arith}
-use borrow.Author.Tests.{lt-ltb, le-ltb}
-use lib.ListN.{length}
+use Rattle.std.proofs.Common.{◌≡◌, sym, List, ℕ, arith, length, le-ltb, inl, inr}
+use Rattle.std.specs.Prelude.{◌⊎◌}
+use Rattle.outcome.specs.Outcome.{accepted, stop_of}
+use Rattle.outcome.specs.declared.answer.Stop.{Stop}
+use Rattle.outcome.specs.declared.answer.Stop.TheVariants.{End, Unknown}
+use Rattle.memory_map.specs.Lookup.{lookup}
 use Rattle.aplx.proofs.LoadLaws.{sound-load}
-use Rattle.scp.proofs.AnswerLaws.{coded-answer}
-use Rattle.scp.specs.Answer.{load_packet}
-use Rattle.scp_packet.specs.Packet.{arg1}
+use Rattle.words.proofs.StoreLaws.{store-nil}
+use Rattle.scp_packet.specs.Packet.{arg1, OK}
+use Rattle.scp.specs.Answer.{coded, load_reaction, load_packet}
 use Rattle.scp.proofs.run.load.Goals as goal
+use Rattle.scp.proofs.run.load.Goals.{In-Ok}
 
-pub returns-then-packet-lt8 : goal.returns-then-packet-lt8
+-- what the packet comes to where the load was accepted
+told :
+    (c : In-Ok) → let l = c.in-Ok.load in
+    load_packet (lookup c.args.map) c.args.packet.now c.args.memory.now
+    ≡ load_reaction (accepted (stop_of l.stop) l.taken l.stored) c.args.packet.now c.load.new.memory
 unfolding load_packet
-returns-then-packet-lt8 c = let x = c.args in
-    let e = c.coded.ensures in
-    simp (e.result_value, e.output_after, lt-ltb (length x.packet.now) 8 (omega arith), coded-answer x.packet.now x.memory.now x.output.now (omega arith) 0x81)
+told c =
+    let x = c.args in
+    let l = rw c.le_word_at.ensures at c.in-Ok.ensures in
+    simp (le-ltb (length x.packet.now) 8 (omega arith), sym (sound-load x.map x.memory.now (arg1 x.packet.now) c.requires), sym l)
 
-pub returns : goal.returns
+-- a stop that is no run
+plain :
+    (x : Stop) (t b : ℕ) (s m : List ℕ) → ((p : ℕ) × (x ≡ End p)) ⊎ ((w : ℕ) × (p : ℕ) × (x ≡ Unknown w p))
+    → load_reaction (accepted (stop_of x) t b) s m ≡ coded OK s m
+plain x t b s m (inl e) = simp e.1
+plain x t b s m (inr e) = simp e.2
+
+pub returns-in_default : goal.returns-in_default
 unfolding load_packet
-returns c = let d = c in
-    let x = d.args in
-    let l = rw d.le_word_at-header.ensures at d.load-answer.ensures in
-    let s = sound-load x.map x.memory.now (arg1 x.packet.now) d.requires.2 in
-    simp (le-ltb (length x.packet.now) 8 (omega arith), sym s, sym l) (c.loaded.ensures d.load-answer.new.memory)
+returns-in_default c = λ (o : List ℕ). let x = c.args in
+    let l = rw c.le_word_at.ensures at c.in_default.ensures in
+    simp (le-ltb (length x.packet.now) 8 (omega arith), sym (sound-load x.map x.memory.now (arg1 x.packet.now) c.requires), sym l)
+
+pub returns-in-Run : goal.returns-in-Run
+returns-in-Run c = λ (o : List ℕ). simp (told (goal.at.returns-in-Run c).In-Ok, c.in-Run.is, store-nil)
+
+pub returns-in-End : goal.returns-in-End
+returns-in-End c = λ (o : List ℕ). let l = c.in-Ok.load in
+    simp (told (goal.at.returns-in-End c).In-Ok, plain l.stop l.taken l.stored c.args.packet.now c.load.new.memory c.in-End.is)

@@ -1,26 +1,26 @@
--- `scp::transfer::write` meets its contract: a return code, or the range.
-use borrow.Author.Rules.{rules}
-use mathlib.Core.Path.{refl, sym, ap, ◌∙◌}
-use mathlib.Core.Bool.{true}
-use native.Mathlib.Omega.{arith}
-use Rattle.scp.specs.Answer.{write_packet}
-use Rattle.scp.proofs.Transfers.{coded-return}
-use Rattle.scp_packet.specs.Code.{transfer_is}
+-- `scp::transfer::write` meets its contract: a permitted range lies in memory, and the packet's data fill it.
+use Rattle.std.proofs.Common.{◌≡◌, refl, true, sym, ◌∙◌, List, ℕ, length}
+use Rattle.memory_region.specs.declared.region.Right.TheVariants.{Write}
+use Rattle.memory_map.specs.Lookup.{at, lookup}
+use Rattle.memory_map.proofs.LookupLaws.{lawful}
+use Rattle.scp_packet.specs.Packet.{arg1, arg2}
 use Rattle.scp_packet.proofs.TransferLaws.{moved}
+use Rattle.scp.specs.Answer.{write_packet}
+use Rattle.scp.proofs.Transfers.{data-stored}
 use Rattle.scp.proofs.transfer.write.Goals as goal
 
-pub write_range-requires : goal.write_range-requires
-write_range-requires c = let x = c.args in
-    let m = moved true x.packet.now (sym c.judge.ensures ∙ ap transfer_is c.in-Moves.is) in
-    let w = m.whole refl in
-    search rules
+pub slice_bounds-bytes-count : goal.slice_bounds-bytes-count
+slice_bounds-bytes-count c = (moved true c.args.packet.now (sym c.in_ok-judge.ensures)).long
 
-pub returns-in-Codes : goal.returns-in-Codes
-unfolding write_packet
-returns-in-Codes c = let x = c.args in
-    let told = sym c.judge.ensures ∙ ap transfer_is c.in-Codes.is in
-    coded-return x.packet.now x.memory.now x.output.now (omega arith) c.in-Codes.code (simp told) (c.coded.ensures.result_value, c.coded.ensures.output_after)
+pub slice_bounds-bytes-start : goal.slice_bounds-bytes-start
+slice_bounds-bytes-start c = (moved true c.args.packet.now (sym c.in_ok-judge.ensures)).long
 
-pub returns-in-Moves : goal.returns-in-Moves
+pub returns : goal.returns
 unfolding write_packet
-returns-in-Moves c = simp (sym c.judge.ensures ∙ ap transfer_is c.in-Moves.is) c.write_range.ensures
+returns c = λ (o : List ℕ). let x = c.args in
+    let s = x.packet.now in
+    let p = c.in-Ok.place in
+    let f : lookup x.map Write (arg1 s) (arg2 s) ≡ at p = rw (c.le_word_at-address.ensures, c.le_word_at-size.ensures) at (sym c.in-Ok.ensures) in
+    let i = (lawful x.map (length x.memory.now) c.requires).inside Write _ _ _ f in
+    let m = moved true s (sym c.in_ok-judge.ensures) in
+    simp (sym c.in_ok-judge.ensures, f, c.bytes.ensures ∙ data-stored s x.memory.now p (arg2 s) (m.whole refl) i)
