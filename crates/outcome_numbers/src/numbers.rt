@@ -107,7 +107,11 @@ pub(crate) fn refused(refusal: Refusal, bytes: u64) -> Parts
 pub(crate) fn needed(cause: Cause, bytes: u64) -> u64
     ensures { result ≡ needed (number_of cause) bytes }
 {
-    if cause == Cause::OutputTooSmall { bytes } else { 0 }
+    if cause == Cause::OutputTooSmall {
+        bytes
+    } else {
+        0
+    }
 }
 
 // A run: its kind, 1 for ARM and 2 for Thumb, and its address.
