@@ -9,8 +9,9 @@ ghost use Rattle.aplx_look.specs.Look.{meets_header, look_of, outcome_of_look};
 ghost use Rattle.aplx_look.specs.Look.Header.{bytes_of};
 ghost use Rattle.aplx_command.specs.Code.{command_is};
 
+use crate::board::Board;
 use aplx_command::command::Command;
-use memory_map::map::{Map, place};
+use memory_map::map::place;
 use memory_region::region::Right;
 use outcome::answer::{Load, Stop};
 use outcome::refusal::{Cause, Refusal};
@@ -43,21 +44,20 @@ fn bytes_of(command: Command) -> u64
 
 // The answer of a load whose walk passed so many entries and then found its stop.
 pub(crate) fn check_header(
-    map: Map,
-    memory: &[u8],
+    board: &Board,
     header: u32,
     count: usize,
     stop: Stop,
 ) -> Result<Load, Refusal>
-    requires { (sound map (length memory.now) ≡ true) × Passed (lookup map) memory.now header count × (count < 256) }
-    ensures { outcome_of result ≡ outcome_of_look (look_of header (commands (lookup map) memory.now header count) (stops (stop_of stop))) }
+    requires { Passed (lookup board.now.map) board.now.memory.now header count × (count < 256) }
+    ensures { outcome_of result ≡ outcome_of_look (look_of header (commands (lookup board.now.map) board.now.memory.now header count) (stops (stop_of stop))) }
 {
     let size = 16 * (count as u64 + 1);
     let mut address = header;
     let mut stored: u64 = 0;
     for i in 0..count {
-        let entry = place(map.lookup(Right::Read, address, 16));
-        let command = aplx_command::command::command_at(memory, entry, address);
+        let entry = place(board.map.lookup(Right::Read, address, 16));
+        let command = aplx_command::command::command_at(board.memory, entry, address);
         if meets_header(command, header, size) {
             return Err(Cause::MeetsHeader.at(i));
         }

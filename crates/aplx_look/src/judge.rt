@@ -8,6 +8,7 @@ ghost use Rattle.aplx_look.specs.Walk.{halts, tests, judge};
 ghost use Rattle.aplx_look.specs.Code.{verdict_is};
 ghost use Rattle.aplx_command.specs.Code.{command_is};
 
+use crate::board::Board;
 use aplx_command::command::Command;
 use memory_map::map::Map;
 use memory_region::region::Right;
@@ -90,18 +91,12 @@ fn judge_command(
 
 // The tests of the entry with an index, at an address. A refusal's place is the index.
 #[tactic(auto, unfolding(crate::specs::Walk::judge))]
-pub(crate) fn judge_entry(
-    map: Map,
-    memory: &[u8],
-    address: u32,
-    index: usize,
-) -> Result<Option<Stop>, Cause>
-    requires { sound map (length memory.now) ≡ true }
-    ensures { verdict_is index result ≡ judge (lookup map) memory.now address index }
+pub(crate) fn judge_entry(board: &Board, address: u32, index: usize) -> Result<Option<Stop>, Cause>
+    ensures { verdict_is index result ≡ judge (lookup board.now.map) board.now.memory.now address index }
 {
-    let Ok(place) = map.lookup(Right::Read, address, 16) else {
+    let Ok(place) = board.map.lookup(Right::Read, address, 16) else {
         return Err(Cause::EntryNotReadable);
     };
-    let command = aplx_command::command::command_at(memory, place, address);
-    judge_command(map, command, address, index)
+    let command = aplx_command::command::command_at(board.memory, place, address);
+    judge_command(board.map, command, address, index)
 }

@@ -3,6 +3,7 @@ ghost use Rattle.std.specs.Prelude.{◌≡◌};
 ghost use Rattle.outcome.specs.Outcome.{outcome_of};
 ghost use Rattle.aplx_look.specs.Look.{aplx_look, outcome_of_look};
 
+use crate::board::Board;
 use crate::header::check_header;
 use crate::walk::walk_entries;
 use memory_map::map::Map;
@@ -20,6 +21,7 @@ pub fn look(map: Map, memory: &[u8], header: u32) -> Result<Load, Refusal>
     if header % 4 != 0 {
         return Err(Cause::NotAligned.at(0));
     }
-    let (count, stop) = walk_entries(map, memory, header)?;
-    check_header(map, memory, header, count, stop)
+    let board = Board { map, memory };
+    let (count, stop) = walk_entries(&board, header)?;
+    check_header(&board, header, count, stop)
 }

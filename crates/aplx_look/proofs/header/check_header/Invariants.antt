@@ -8,8 +8,8 @@ use Rattle.aplx_look.proofs.header.check_header.Given as goal
 
 abbrev pub invariant-loop-i : goal.invariant-loop-i
 invariant-loop-i l = let end = stops (stop_of l.stop) in
-    let left = commands (lookup l.map) l.memory l.address (l.count - l.i) in
-    let all = commands (lookup l.map) l.memory l.header l.count in
+    let left = commands (lookup l.board.map) l.board.memory.now l.address (l.count - l.i) in
+    let all = commands (lookup l.board.map) l.board.memory.now l.header l.count in
     record {
       at : l.address ≡ l.header + 16 * l.i;
       few : l.stored ≤ 4294967280 * l.i;

@@ -7,5 +7,5 @@ use Rattle.aplx_look.proofs.judge.judge_entry.Goals as goal
 
 pub judge_command-requires : goal.judge_command-requires
 judge_command-requires c = let x = c.args in
-    let h = (lawful x.map (length x.memory.now) c.requires).below Read x.address 16 _ (sym c.lookup.ensures ∙ ap found_of c.in-Ok.is) in
+    let h = (lawful x.board.now.map (length x.board.now.memory.now) x.board.now.is_sound).below Read x.address 16 _ (sym c.lookup.ensures ∙ ap found_of c.in-Ok.is) in
     omega arith
