@@ -2,7 +2,7 @@
 ghost use Rattle.std.specs.Prelude.{◌≡◌, length};
 ghost use Rattle.plan.specs.Plan.{read_plan};
 ghost use Rattle.plan.specs.Packed.{output_after, outcome_of, written_length};
-ghost use Rattle.plan.specs.Code.Packer.{ReadAs, outcome_is};
+ghost use Rattle.plan.specs.Code.Packer.{outcome_is};
 ghost use Rattle.aplx_share.specs.SharedImage.{shared_image, pack_shared};
 
 use crate::contents::collect;
@@ -21,33 +21,25 @@ pub fn image_length(plan: &[u8]) -> usize
     }
 }
 
-// The image of a plan that was read as so many pieces, at the output's front, or refusal 10. No contents are compared where not even the
-// entries fit.
-fn pack_pieces(plan: &[u8], pieces: u32, output: &mut [u8]) -> Result<usize, Refusal>
-    requires { ReadAs (read_plan 32 plan.now) pieces }
-    ensures result_value { outcome_is result ≡ outcome_of (pack_shared plan.now (length output.old)) }
-    ensures output_after { output.new ≡ output_after (pack_shared plan.now (length output.old)) output.old }
-{
-    let front = 16 * (pieces as usize + 1);
-    let too_small = Err(Cause::OutputTooSmall.at(pieces as usize));
-    if output.len() < front {
-        return too_small;
-    }
-    let kept = collect(plan, pieces);
-    let size = front + kept.size;
-    if output.len() < size {
-        return too_small;
-    }
-    write_entries(plan, pieces, &kept.places, output);
-    write_contents(plan, kept.contents(), output, front);
-    Ok(size)
-}
-
 // Packs a plan as an APLX image that keeps one copy of equal put data, at the output's front. A refused plan changes no byte of the output.
+// No contents are compared where not even the entries fit.
 pub fn pack(plan: &[u8], output: &mut [u8]) -> Result<usize, Refusal>
     ensures result_value { outcome_is result ≡ outcome_of (pack_shared plan.now (length output.old)) }
     ensures output_after { output.new ≡ output_after (pack_shared plan.now (length output.old)) output.old }
 {
     let pieces = read(plan, Target::Aplx)?;
-    pack_pieces(plan, pieces.count as u32, output)
+    let too_small = Err(Cause::OutputTooSmall.at(pieces.count));
+    let front = 16 * (pieces.count + 1);
+    if output.len() < front {
+        return too_small;
+    }
+    let count = pieces.count as u32;
+    let kept = collect(plan, count);
+    let size = front + kept.size;
+    if output.len() < size {
+        return too_small;
+    }
+    write_entries(plan, count, &kept.places, output);
+    write_contents(plan, kept.contents(), output, front);
+    Ok(size)
 }
