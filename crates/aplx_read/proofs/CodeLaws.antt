@@ -1,11 +1,11 @@
 -- Laws of the code's readings of an image that was read: the piece that the code reads at an index is the image's, and so are the sums that
 -- the reader answers.
-use Rattle.std.specs.Prelude.{◌≡◌, List, ℕ, ◌<◌, length, get_or}
+use Rattle.std.specs.Prelude.{◌≡◌, List, ℕ, ◌<◌, length, get_or, Result, Ok}
 use Rattle.std.proofs.Common.{ap, sym, ◌∙◌, arith}
 use Rattle.plan.specs.declared.piece.Piece as CodePiece
-use Rattle.plan.specs.declared.read.Answer as CodeAnswer
-use Rattle.plan.specs.declared.read.Answer.TheVariants as answer
-use Rattle.plan.specs.Plan.{Piece, run, piece_in, pieces}
+use Rattle.plan.specs.declared.read.Pieces.{Pieces}
+use Rattle.outcome.specs.declared.refusal.Refusal.{Refusal}
+use Rattle.plan.specs.Plan.{run, piece_in, pieces}
 use Rattle.plan.specs.Code.{row_is, piece_is, outcome_of, outcome_is}
 use Rattle.plan.specs.Code.Packer.{Writable}
 use Rattle.plan.proofs.CodeLaws.{Known, known_bytes, can_write, Lengths, lengths, Found, found-piece, Counted, counted-pieces}
@@ -34,7 +34,7 @@ module _ (image : List ℕ) (b : Known image) where
       let same : get_or (image_pieces image) i (run 0) ≡ piece_is image p = at.is-piece ∙ ap (piece_in image) (sym row) in
       found-piece 32 image (image_pieces image) i p h same (entry-writable i p is-piece)
 
-  pub counted : {r : CodeAnswer.Answer} → outcome_is r ≡ outcome_of (read_image image) → {n p f : ℕ} → r ≡ answer.Pieces n p f → Counted (read_image image) n p f
+  pub counted : {r : Result Pieces Refusal} → outcome_is r ≡ outcome_of (read_image image) → {v : Pieces} → r ≡ Ok v → Counted (read_image image) v.count v.puts v.fills
   counted =
       counted-pieces 32 (read_image image)
       (λ ps e. let r = image-carries image (known_bytes image b) e in (omega (arith, r.few), r.good))

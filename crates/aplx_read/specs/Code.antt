@@ -1,18 +1,24 @@
--- What the cases of the code's enum say, and what the code writes, in the terms of the definitions.
-use Rattle.std.specs.Prelude.{List, ℕ, ◌+◌}
+-- What the code's answers for an entry say, and what the code writes, in the terms of the definitions.
+use Rattle.std.specs.Prelude.{List, ℕ, ◌+◌, Result, Ok, Err, Option, Some, None}
+use Rattle.outcome.specs.declared.refusal.Cause.{Cause}
+use Rattle.outcome.specs.Refusal.{number_of}
+use Rattle.plan.specs.declared.piece.Piece as CodePiece
 use Rattle.words.specs.Store.{store}
 use Rattle.plan.specs.Plan.{Piece, data_of, Row, run_row}
 use Rattle.plan.specs.Packed.{pieces_in}
 use Rattle.plan.specs.Code.{row_is}
-use Rattle.aplx_read.specs.declared.entry.Entry as code
-use Rattle.aplx_read.specs.declared.entry.Entry.TheVariants as entry
 use Rattle.aplx_read.specs.ReadBack.{Entry, piece, end, bad, read_image}
 use Rattle.aplx_read.specs.PlanBytes.{row_bytes}
 
-abbrev pub entry_is : code.Entry → Entry
-entry_is (entry.Piece p) = piece (row_is p)
-entry_is entry.End = end
-entry_is (entry.Bad n) = bad n
+abbrev pub entry_is : Result (Option CodePiece.Piece) Cause → Entry
+entry_is (Ok (Some p)) = piece (row_is p)
+entry_is (Ok None) = end
+entry_is (Err c) = bad (number_of c)
+
+-- what the code answers to the tests of a length and a destination, before the rest
+abbrev pub range_then : Result Unit Cause → Entry → Entry
+range_then (Ok w) rest = rest
+range_then (Err c) rest = bad (number_of c)
 
 -- the row of an entry; a run at 0 where the entry is none
 abbrev pub row_of : Entry → Row

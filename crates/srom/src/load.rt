@@ -8,6 +8,7 @@ use outcome::answer::Load;
 use outcome::refusal::{Cause, Refusal};
 
 // The whole answer of a load into a memory of so many bytes. Nothing is stored.
+#[tactic(auto, unfolding(crate::specs::Load::srom_look, crate::specs::Load::look))]
 fn look(map: Map, size: usize, rom: &[u8], offset: usize) -> Result<Load, Refusal>
     ensures { outcome_of result ≡ outcome_of_walk (srom_look map size rom.now offset) }
 {

@@ -56,6 +56,7 @@ fn run_item(map: Map, at: usize, address: u32) -> Result<Item, Cause>
 }
 
 // A block of so many words for an address, at an offset.
+#[tactic(auto, unfolding(crate::specs::Walk::data_block))]
 fn data_item(map: Map, s: &[u8], at: usize, words: u16, address: u32) -> Result<Item, Cause>
     requires { (at + 7 ≤ length s.now) × (length s.now ≤ 16777216) }
     ensures { block_of at result ≡ data_block (lookup map) s.now at words address }
@@ -78,6 +79,7 @@ fn data_item(map: Map, s: &[u8], at: usize, words: u16, address: u32) -> Result<
 }
 
 // The block whose start byte is at an offset. A refusal of it has that place.
+#[tactic(auto, unfolding(crate::specs::Walk::block_at))]
 fn block_item(map: Map, s: &[u8], at: usize) -> Result<Item, Cause>
     requires { (at < length s.now) × (length s.now ≤ 16777216) }
     ensures { block_of at result ≡ block_at (lookup map) s.now at }
@@ -96,6 +98,7 @@ fn block_item(map: Map, s: &[u8], at: usize) -> Result<Item, Cause>
 }
 
 // The item at an offset where no pad stands.
+#[tactic(auto, unfolding(crate::specs::Walk::item_at))]
 fn item_at(map: Map, s: &[u8], at: usize) -> Result<Item, Refusal>
     requires { (length s.now ≤ 16777216) × (at < length s.now → get_or s.now at 0 ≡ 0x55 → ⊥) }
     ensures { item_of result ≡ item_at (lookup map) s.now at }

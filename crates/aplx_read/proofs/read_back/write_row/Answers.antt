@@ -7,35 +7,19 @@ use Rattle.words.specs.Four.{four_bytes}
 use Rattle.words.proofs.FourLaws.{length-four_bytes, four-fits}
 use Rattle.words.proofs.StoreLaws.{store-nil}
 use Rattle.words.proofs.StoreGrowing.{both-fit}
-use Rattle.plan.specs.declared.piece.Piece.TheVariants.{Put, Fill}
+use Rattle.plan.specs.declared.piece.Piece.TheVariants.{Put}
 use Rattle.plan.specs.Code.Packer.{Writable}
 use Rattle.plan.proofs.PlanLaws.{data-length}
 use Rattle.aplx_read.specs.PlanBytes.{row_bytes}
 use Rattle.aplx_read.proofs.read_back.write_row.Goals as goal
 use Rattle.aplx_read.proofs.read_back.write_row.Goals.{In-Fill, In-Put}
 
--- what is required, of a put and of a fill
+-- what is required of a put
 put-fits : (c : In-Put) → let x = c.args in
     Writable 32 x.image.now (Put c.in-Put.address c.in-Put.from c.in-Put.length) × (x.start + x.offset + c.in-Put.length ≤ length x.output.now)
 put-fits c =
     let h = rw c.in-Put.is at c.requires in
     (h.0, h.3)
-
-fill-fits : (c : In-Fill) → let x = c.args in
-    Writable 32 x.image.now (Fill c.in-Fill.address c.in-Fill.length c.in-Fill.word)
-fill-fits c = rw c.in-Fill.is at c.requires.0
-
-pub overflow_add-end : goal.overflow_add-end
-overflow_add-end c = omega (arith, put-fits (goal.at.overflow_add-end c).In-Put)
-
-pub overflow_cast-length : goal.overflow_cast-length
-overflow_cast-length c = omega (arith, put-fits (goal.at.overflow_cast-length c).In-Put)
-
-pub slice_bounds-bytes-end : goal.slice_bounds-bytes-end
-slice_bounds-bytes-end c = (put-fits (goal.at.slice_bounds-bytes-end c).In-Put).0.0
-
-pub overflow_cast-length-in-Fill : goal.overflow_cast-length-in-Fill
-overflow_cast-length-in-Fill c = omega (arith, fill-fits (goal.at.overflow_cast-length-in-Fill c).In-Fill)
 
 pub returns-in-Put : goal.returns-in-Put
 unfolding row_bytes

@@ -1,7 +1,7 @@
 -- `srom::walk::block_item` meets its contract: the numbers read from the parts of the slice are those at their offsets.
 use mathlib.Core.Path.{◌≡◌, sym, ◌∙◌}
 use native.Mathlib.Omega.{arith}
-use borrow.Author.Tests.{eq-eqb, ne_eqb, le-ltb, lt-ltb}
+use borrow.Author.Tests.{eq-eqb, ne_eqb, le-ltb}
 use Prim.Native.Nat.{◌+◌, ◌-◌}
 use lib.ListN.{length}
 use Rattle.words.proofs.BytesLaws.{big-at-part}
@@ -20,10 +20,6 @@ word_read : (c : After-be_word-a) → let x = c.args in c.be_word-a.result ≡ b
 word_read c =
     let x = c.args in
     c.be_word-a.ensures ∙ big-at-part 4 (x.at + 3) (length x.s.now - (x.at + 3)) x.s.now (omega arith)
-
-pub returns-then-s-at-lt7 : goal.returns-then-s-at-lt7
-unfolding block_at
-returns-then-s-at-lt7 c = let x = c.args in simp (lt-ltb (length x.s.now) (x.at + 7) (omega arith))
 
 pub returns-then-n-eq0 : goal.returns-then-n-eq0
 unfolding block_at

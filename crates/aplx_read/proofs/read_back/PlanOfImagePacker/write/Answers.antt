@@ -1,14 +1,16 @@
--- `aplx_read::read_back::write_plan` meets its contract: the loop's invariant: the header, and the rows and the data before piece `i` are written, and the next data's offset is that of piece `i`. The measure is the pieces left.
+-- `aplx_read::read_back::PlanOfImagePacker::write` meets its contract: the loop's invariant: the header, and the rows and the data before piece `i` are written, and the next data's offset is that of piece `i`.
 use mathlib.Core.Path.{◌≡◌, refl, ap, sym, ◌∙◌}
 use mathlib.Core.List.{List}
-use Prim.Native.Nat.{ℕ, ◌+◌, ◌-◌, ◌*◌, ◌≤◌}
+use Prim.Native.Nat.{ℕ, ◌+◌, ◌*◌, ◌≤◌}
 use native.Mathlib.Omega.{arith}
 use lib.ListN.{length}
 use Rattle.words.proofs.FourLaws.{four-fits}
 use Rattle.words.specs.Store.{store}
 use Rattle.plan.specs.Plan.{Piece, data_of, put_bytes, datas}
 use Rattle.plan.specs.Code.{piece_is}
-use Rattle.plan.proofs.CodeLaws.{Found}
+use Rattle.plan.proofs.CodeLaws.{Found, known_bytes}
+use Rattle.plan.proofs.PlanSums.{bytes_most}
+use Rattle.aplx_read.proofs.ReadBackCarried.{image-carries}
 use Rattle.plan.proofs.CodeRows.{data_start, earlier-most, put-most, datas-through, earlier-next, Written, length-written, written-more}
 use Rattle.aplx_read.specs.PlanBytes.{row_bytes}
 use Rattle.aplx_read.proofs.PlanBytesLaws.{length-row_bytes}
@@ -16,8 +18,8 @@ use Rattle.aplx_read.specs.Code.{image_pieces}
 use Rattle.aplx_read.proofs.CodeLaws.{found}
 use Rattle.aplx_read.proofs.Writing as written
 use Rattle.aplx_read.proofs.Writing.{header, header_is, front, length_front, front-through, plan-end}
-use Rattle.aplx_read.proofs.read_back.write_plan.Goals as goal
-use Rattle.aplx_read.proofs.read_back.write_plan.Goals.{After-accepted_at-piece, After-put}
+use Rattle.aplx_read.proofs.read_back.PlanOfImagePacker.write.Goals as goal
+use Rattle.aplx_read.proofs.read_back.PlanOfImagePacker.write.Goals.{After-accepted_at-piece, After-put}
 
 -- the header was written
 module _ (c : After-put) where
@@ -34,17 +36,23 @@ module _ (c : After-put) where
   header-written : begun ≡ store c.args.output.now 0 (header ps)
   header-written =
       let x = c.args in
-      c.put.ensures ∙ four-fits x.output.now 0 x.count 16 (16 * (x.count + 1)) x.puts (omega (arith, room))
+      c.put.ensures ∙ four-fits x.output.now 0 x.pieces.count 16 (16 * (x.pieces.count + 1)) x.pieces.puts (omega (arith, room))
       ∙ ap (store x.output.now 0) (header_is ps c.requires.0.counts c.requires.1)
 
   length-begun : length begun ≡ length c.args.output.now
   length-begun = written.length-begun ps c.args.output.now begun c.requires.0.fits header-written
 
+pub overflow_cast-pieces : goal.overflow_cast-pieces
+overflow_cast-pieces c = let s = c.args.image.now in
+    let h = c.requires in
+    let r = image-carries s (known_bytes s c.type_inv.image) h.0.accepted in
+    omega (arith, h.1, r.few, bytes_most 32 (image_pieces s) r.good)
+
 pub loop-i-init : goal.loop-i-init
 unfolding datas
 loop-i-init c = let d = c in
     let none = written.written_none (ps (goal.at.loop-i-init c).After-put) c.args.output.now (begun (goal.at.loop-i-init c).After-put) c.requires.0.fits (header-written (goal.at.loop-i-init c).After-put) in
-    (none, (refl, (omega arith, (refl, omega arith))))
+    (none, (refl, (omega arith, refl)))
 
 -- the piece read is the image's
 module _ (c : After-accepted_at-piece) where
@@ -73,10 +81,7 @@ loop-i-preserved c = let d = c in
     let more : Written (ps (goal.at.loop-i-preserved c).After-put) (front (ps (goal.at.loop-i-preserved c).After-put)) (begun (goal.at.loop-i-preserved c).After-put) w.new.output (i + 1) =
     rw w.ensures (written-more (ps (goal.at.loop-i-preserved c).After-put) (front (ps (goal.at.loop-i-preserved c).After-put)) (begun (goal.at.loop-i-preserved c).After-put) fits i c.loop-i.invariant.0 row (data_of p) (sym (length_front (ps (goal.at.loop-i-preserved c).After-put) i (omega arith)))
     (omega (arith, length-row_bytes p c.loop-i.offset)) (omega arith) (front-through n _ offset (omega arith)) (datas-through n)) in
-    (more, (omega (arith, earlier-next n), (omega (arith, put-most n), (length-written (ps (goal.at.loop-i-preserved c).After-put) (front (ps (goal.at.loop-i-preserved c).After-put)) (begun (goal.at.loop-i-preserved c).After-put) fits (i + 1) more (omega (arith, length_front (ps (goal.at.loop-i-preserved c).After-put) (i + 1) (omega arith))), omega arith))))
-
-pub shape_of-output : goal.shape_of-output
-shape_of-output c = c.loop-i.invariant.1.1.1.0 ∙ length-begun (goal.at.shape_of-output c).After-put
+    (more, (omega (arith, earlier-next n), (omega (arith, put-most n), (length-written (ps (goal.at.loop-i-preserved c).After-put) (front (ps (goal.at.loop-i-preserved c).After-put)) (begun (goal.at.loop-i-preserved c).After-put) fits (i + 1) more (omega (arith, length_front (ps (goal.at.loop-i-preserved c).After-put) (i + 1) (omega arith)))))))
 
 pub returns : goal.returns
 returns c = let h = c in
