@@ -20,8 +20,8 @@ byte_at-new_byte-requires c = let s = c in
 pub overflow_add-at : goal.overflow_add-at
 overflow_add-at c = let p = c.requires in omega (arith, p.above, p.most)
 
-pub until-stop-requires : goal.until-stop-requires
-until-stop-requires c = let s = c in
+pub until-requires : goal.until-requires
+until-requires c = let s = c in
     let x = s.args in (
       reaches-part x.old.now x.sources.old x.at x.sources.end (x.at + 1) x.sources.end (omega arith) (omega arith) s.requires.old-reaches,
       reaches-part x.new.now x.sources.new x.at x.sources.end (x.at + 1) x.sources.end (omega arith) (omega arith) s.requires.new-reaches,
@@ -33,13 +33,13 @@ returns-then-both_store c = let s = c in
     let x = s.args in
     let o = c.byte_at-old_byte in
     let n = c.byte_at-new_byte in
-    let u = c.until-stop.ensures in record {
+    let u = c.until.ensures in record {
       at_lt_end = (omega (arith, u.lower_bound.0), u.lower_bound.1);
       result_value = (
         is-old x.old.now x.new.now x.at x.sources s.requires o.result n.result o.ensures n.ensures,
         is-new x.old.now x.new.now x.at x.sources s.requires o.result n.result o.ensures n.ensures,
       );
-      alike = compared-alike x.old.now x.new.now x.at x.sources s.requires o.result n.result o.ensures n.ensures c.until-stop.result u.lower_bound.1 u.alike;
+      alike = compared-alike x.old.now x.new.now x.at x.sources s.requires o.result n.result o.ensures n.ensures c.until.result u.lower_bound.1 u.alike;
     }
 
 pub returns : goal.returns
