@@ -5,7 +5,7 @@ ghost use Rattle.compare.specs.Code.{image_of, Alike};
 ghost use Rattle.compare.specs.Code.Segment.{given_by, stored, Reaches};
 ghost use Rattle.compare.specs.Code.Block.{Sides};
 
-use crate::pairs::alike;
+use crate::pairs::{PAIRS, alike};
 use crate::segment::{Source, byte_at, fill_byte};
 use crate::sides::Sources;
 
@@ -24,11 +24,13 @@ fn both_store(sources: Sources) -> bool
     !matches!(sources.old, Source::Nothing) && !matches!(sources.new, Source::Nothing)
 }
 
-// The bytes of a word in a row, 64 from any of the first four on.
-fn row_of(word: u32) -> [u8; 68]
+// The bytes of a word in a row, as many as are compared at once from any of the first four on.
+const ROW: usize = PAIRS + 4;
+
+fn row_of(word: u32) -> [u8; ROW]
     ensures { result ≡ filling 68 word }
 {
-    let mut row = [0u8; 68];
+    let mut row = [0u8; ROW];
     word_blocks::fill::fill(&mut row, word);
     row
 }
@@ -65,7 +67,7 @@ fn until(old: &[u8], new: &[u8], sources: Sources, at: u64, same: bool) -> u64
             let old_at = from + (at - address as u64) as usize;
             let phase = ((at - new_address as u64) % 4) as usize;
             let row = row_of(word);
-            at + alike(|k| old[old_at + k], |k| row[phase + k % 64], size, same) as u64
+            at + alike(|k| old[old_at + k], |k| row[phase + k % PAIRS], size, same) as u64
         }
         (
             Source::Fill { address, word, .. },
@@ -78,7 +80,7 @@ fn until(old: &[u8], new: &[u8], sources: Sources, at: u64, same: bool) -> u64
             let phase = ((at - address as u64) % 4) as usize;
             let new_at = from + (at - new_address as u64) as usize;
             let row = row_of(word);
-            at + alike(|k| row[phase + k % 64], |k| new[new_at + k], size, same) as u64
+            at + alike(|k| row[phase + k % PAIRS], |k| new[new_at + k], size, same) as u64
         }
         (
             Source::Fill { address, word, .. },

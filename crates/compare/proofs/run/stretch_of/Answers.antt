@@ -21,9 +21,6 @@ module _ (c : After-accepted_at) where
   piece : Found 1 s (plan_pieces 1 s) c.loop-i.i c.accepted_at.result
   piece = found 1 s c.type_inv.plan c.requires.0 c.loop-i.i (omega arith) c.accepted_at.result c.accepted_at.ensures
 
-pub loop-i-init : goal.loop-i-init
-loop-i-init c = (omega arith, refl)
-
 pub returns-in-Run : goal.returns-in-Run
 returns-in-Run c = let d = (goal.at.returns-in-Run c).After-accepted_at in
     let l = c.loop-i in

@@ -1,5 +1,5 @@
 -- `compare::segment::segment_at` meets its contract. The loop's invariant: what the pieces from `i` on make of the segment so far is what all pieces make of none.
-use mathlib.Core.Path.{◌≡◌, refl, ap, sym, ◌∙◌}
+use mathlib.Core.Path.{◌≡◌, ap, sym, ◌∙◌}
 use mathlib.Core.List.{List, ◌∷◌}
 use Prim.Native.Nat.{ℕ, suc, ◌+◌, ◌≤◌, ◌<◌}
 use native.Mathlib.Omega.{arith}
@@ -34,9 +34,6 @@ module _ (c : After-accepted_at) where
 
   in-stretch : drop c.loop-i.i ps ≡ piece_is s c.accepted_at.result ∷ drop (suc c.loop-i.i) ps
   in-stretch = stretch-piece (plan_pieces 1 s) c.loop-i.i below-count piece.from
-
-pub loop-i-init : goal.loop-i-init
-loop-i-init c = (refl, refl, tt)
 
 pub narrow-segment-requires : goal.narrow-segment-requires
 narrow-segment-requires c = writable-short (s (goal.at.narrow-segment-requires c).After-accepted_at) c.accepted_at.result (piece (goal.at.narrow-segment-requires c).After-accepted_at).writable
