@@ -2,17 +2,19 @@
 use Rattle.std.specs.Prelude.{◌≡◌, Bool, true, false, List, [], ◌∷◌, ℕ, ◌+◌, ◌*◌, ◌≤◌, ◌<◌, ltb, length, if◌then◌else◌, eqb, Option, None, Some}
 use Rattle.std.specs.Option.{option_eq}
 use Rattle.std.proofs.Math.Path.{refl}
-use Rattle.std.proofs.Common.{ap, zero-add, add-zero, arith, lt-ltb, le-ltb, ltb-false}
+use Rattle.std.proofs.Common.{ap, sym, zero-add, add-zero, arith, lt-ltb, le-ltb, ltb-false}
 use Rattle.plan.specs.declared.piece.Piece as CodePiece
 use Rattle.plan.specs.declared.piece.Piece.TheVariants as code
-use Rattle.plan.specs.Plan.{Piece, Read, refused, pieces, before}
+use Rattle.words.proofs.ChoiceLaws.{true-is-false}
+use Rattle.plan.specs.Plan.{Piece, Read, refused, pieces, before, read_plan}
+use Rattle.plan.specs.Packed.{pieces_in, Accepted}
 use Rattle.plan.specs.Code.{piece_is}
 use Rattle.stretches.specs.Stretches.{Stretch}
 use Rattle.compare.specs.Reading.{addresses, read_compared, none, run_of, same_run}
 use Rattle.compare.proofs.ReadingLaws.{readable}
 use Rattle.compare.specs.Reading.Stretch.{run_at}
 use Rattle.compare.specs.Compare.{neither, old_plan, new_plan, Compared, refuses, finds, most_stretches, stretch_size, differences, limited, compared_below, compared, output_after}
-use Rattle.compare.specs.Code.{outcome_of, stretch_count, Reading, fails, reads, reading_of, run_is, Comparable}
+use Rattle.compare.specs.Code.{outcome_of, was_read, stretch_count, Reading, fails, reads, reading_of, run_is, Comparable}
 
 -- ---- a loop that counts pieces while they are read
 -- what is read, where r follows n pieces
@@ -50,6 +52,13 @@ same-run None None = refl
 same-run None (Some b) = refl
 same-run (Some a) None = refl
 same-run (Some a) (Some b) = refl
+
+pub accepted-from : (s : List ℕ) → was_read (read_plan 1 s) ≡ true → Accepted 1 s
+accepted-from s e = go (read_plan 1 s) e
+  where
+    go : (r : Read) → was_read r ≡ true → r ≡ pieces (pieces_in r)
+    go (refused x i) e = true-is-false (sym e)
+    go (pieces ps) e = refl
 
 pub comparable : (s : List ℕ) {n : ℕ} → reading_of (read_compared s) ≡ reads n → Comparable s n
 comparable s {n} e = go (read_compared s) refl e

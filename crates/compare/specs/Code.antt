@@ -4,7 +4,7 @@ pub mod Block
 pub mod Collected
 pub mod Listed
 pub mod Pairs
-use Rattle.std.specs.Prelude.{◌≡◌, Bool, List, ℕ, ◌+◌, ◌*◌, ◌≤◌, ◌<◌, eqb, length, Option, None, Some, Result, Ok, Err}
+use Rattle.std.specs.Prelude.{◌≡◌, Bool, true, false, List, ℕ, ◌+◌, ◌*◌, ◌≤◌, ◌<◌, eqb, length, Option, None, Some, Result, Ok, Err}
 use Rattle.plan.specs.Plan.{Read, refused, pieces}
 use Rattle.plan.specs.Packed.{plan_pieces, Accepted}
 use Rattle.plan.specs.Meaning.{stretch}
@@ -66,9 +66,10 @@ pub record Comparable (s : List ℕ) (n : ℕ) : Type 0 where
   pub accepted : Accepted 1 s
   pub count : n ≡ length (plan_pieces 1 s)
 
--- an accepted plan, and the number of pieces of its stretch from index 0
-abbrev pub Whole : List ℕ → ℕ → Type 0
-Whole s n = Accepted 1 s × (n ≡ length (stretch (plan_pieces 1 s)))
+-- reading gave pieces
+abbrev pub was_read : Read → Bool
+was_read (refused x i) = false
+was_read (pieces ps) = true
 
 -- what was read of an accepted plan
 abbrev pub read_as : List ℕ → Read

@@ -5,7 +5,7 @@ ghost use Rattle.compare.specs.Code.{image_of, Alike};
 ghost use Rattle.compare.specs.Code.Segment.{given_by, stored, Reaches};
 ghost use Rattle.compare.specs.Code.Block.{Sides};
 
-use crate::pairs::alike;
+use crate::pairs::{PAIRS, alike};
 use crate::segment::{Source, byte_at, fill_byte};
 use crate::sides::Sources;
 
@@ -17,38 +17,33 @@ pub(crate) struct Block {
     pub new: u32,
 }
 
-fn both_store(old: Source, new: Source) -> bool
-    ensures { result ≡ (stored old && stored new) }
+// Whether both plans store.
+fn both_store(sources: Sources) -> bool
+    ensures { result ≡ (stored sources.old && stored sources.new) }
 {
-    !matches!(old, Source::Nothing) && !matches!(new, Source::Nothing)
+    !matches!(sources.old, Source::Nothing) && !matches!(sources.new, Source::Nothing)
 }
 
-// The bytes of a word in a row, 64 from any of the first four on.
-fn row_of(word: u32) -> [u8; 68]
+// The bytes of a word in a row, as many as are compared at once from any of the first four on.
+const ROW: usize = PAIRS + 4;
+
+fn row_of(word: u32) -> [u8; ROW]
     ensures { result ≡ filling 68 word }
 {
-    let mut row = [0u8; 68];
+    let mut row = [0u8; ROW];
     word_blocks::fill::fill(&mut row, word);
     row
 }
 
-// The first address from `at` on and below `end` at which the two last bytes are equal, or are not, other than asked; or `end`. Of a fill
-// 68 of its bytes are laid out, 64 from any of the word's bytes on; of two fills four pairs tell all.
-fn until(
-    old: &[u8],
-    new: &[u8],
-    old_source: Source,
-    new_source: Source,
-    at: u64,
-    end: u64,
-    same: bool,
-) -> u64
-    requires { Reaches old.now old_source at end × Reaches new.now new_source at end × (at ≤ end) }
-    ensures lower_bound { (at ≤ result) × (result ≤ end) }
-    ensures alike { Alike (given_by old.now old_source) (given_by new.now new_source) at result same }
+// The first address from `at` on, and below the sources' end, at which the two last bytes are equal, or are not, other than asked; or that
+// end. Of a fill 68 of its bytes are laid out, 64 from any of the word's bytes on; of two fills four pairs tell all.
+fn until(old: &[u8], new: &[u8], sources: Sources, at: u64, same: bool) -> u64
+    requires { Reaches old.now sources.old at sources.end × Reaches new.now sources.new at sources.end × (at ≤ sources.end) }
+    ensures lower_bound { (at ≤ result) × (result ≤ sources.end) }
+    ensures alike { Alike (given_by old.now sources.old) (given_by new.now sources.new) at result same }
 {
-    let size = (end - at) as usize;
-    match (old_source, new_source) {
+    let size = (sources.end - at) as usize;
+    match (sources.old, sources.new) {
         (
             Source::Put { address, from, .. },
             Source::Put {
@@ -72,7 +67,7 @@ fn until(
             let old_at = from + (at - address as u64) as usize;
             let phase = ((at - new_address as u64) % 4) as usize;
             let row = row_of(word);
-            at + alike(|k| old[old_at + k], |k| row[phase + k % 64], size, same) as u64
+            at + alike(|k| old[old_at + k], |k| row[phase + k % PAIRS], size, same) as u64
         }
         (
             Source::Fill { address, word, .. },
@@ -85,7 +80,7 @@ fn until(
             let phase = ((at - address as u64) % 4) as usize;
             let new_at = from + (at - new_address as u64) as usize;
             let row = row_of(word);
-            at + alike(|k| row[phase + k % 64], |k| new[new_at + k], size, same) as u64
+            at + alike(|k| row[phase + k % PAIRS], |k| new[new_at + k], size, same) as u64
         }
         (
             Source::Fill { address, word, .. },
@@ -103,7 +98,11 @@ fn until(
                 size.min(4),
                 same,
             );
-            if count < 4 { at + count as u64 } else { end }
+            if count < 4 {
+                at + count as u64
+            } else {
+                sources.end
+            }
         }
         _ => at,
     }
@@ -116,29 +115,17 @@ pub(crate) fn block_at(old: &[u8], new: &[u8], sources: Sources, at: u64) -> Blo
     ensures result_value { (result.old ≡ image_of old.now at) × (result.new ≡ image_of new.now at) }
     ensures alike { Alike (image_of old.now) (image_of new.now) at result.end (eqb result.old result.new) }
 {
-    let old_source = sources.old;
-    let new_source = sources.new;
-    let end = sources.end;
-    let old_byte = byte_at(old, old_source, at);
-    let new_byte = byte_at(new, new_source, at);
-    if both_store(old_source, new_source) {
-        let stop = until(
-            old,
-            new,
-            old_source,
-            new_source,
-            at + 1,
-            end,
-            old_byte == new_byte,
-        );
+    let old_byte = byte_at(old, sources.old, at);
+    let new_byte = byte_at(new, sources.new, at);
+    if both_store(sources) {
         return Block {
-            end: stop,
+            end: until(old, new, sources, at + 1, old_byte == new_byte),
             old: old_byte,
             new: new_byte,
         };
     }
     Block {
-        end,
+        end: sources.end,
         old: old_byte,
         new: new_byte,
     }

@@ -2,14 +2,14 @@
 ghost use Rattle.std.specs.Prelude.{◌≡◌, ◌*◌, ◌≤◌, length};
 ghost use Rattle.compare.specs.Reading.{addresses, read_compared};
 ghost use Rattle.compare.specs.Compare.{most_stretches, stretch_size, compared_below, compared, output_after};
-ghost use Rattle.compare.specs.Code.{Whole, Comparable, read_as, image_of, outcome_of, outcome_is};
+ghost use Rattle.compare.specs.Code.{Comparable, read_as, image_of, outcome_of, outcome_is};
 ghost use Rattle.compare.specs.Code.Block.{Sides};
 ghost use Rattle.compare.specs.Code.Collected.{Collected};
 
 use crate::block::block_at;
 use crate::listing::Listing;
 use crate::reading::{ADDRESSES, read};
-use crate::run::stretch_of;
+use crate::run::{FirstStretch, stretch_of};
 use crate::sides::{Sources, sources_at};
 use outcome::refusal::{Cause, Refusal};
 
@@ -61,17 +61,17 @@ fn collect_blocks(old: &[u8], new: &[u8], sources: Sources, first: u64, listing:
 }
 
 // The stretches in which two plans differ; where they are too many, the first of them, and one more than there may be.
-fn collect(old: &[u8], new: &[u8], old_count: u32, new_count: u32, listing: &mut Listing)
-    requires { Whole old.now old_count × Whole new.now new_count × (listing.old.count ≡ 0) }
-    ensures { Collected listing.new (image_of old.now) (image_of new.now) addresses }
+fn collect(old: FirstStretch, new: FirstStretch, listing: &mut Listing)
+    requires { listing.old.count ≡ 0 }
+    ensures { Collected listing.new (image_of old.entry.plan.now) (image_of new.entry.plan.now) addresses }
 {
     let mut at: u64 = 0;
     while at < ADDRESSES {
         if listing.count > MOST_STRETCHES {
             return;
         }
-        let sources = sources_at(old, new, old_count, new_count, at);
-        collect_blocks(old, new, sources, at, listing);
+        let sources = sources_at(old, new, at);
+        collect_blocks(old.plan, new.plan, sources, at, listing);
         at = sources.end;
     }
 }
@@ -91,7 +91,7 @@ fn compare_pieces(
     let old_stretch = stretch_of(old, old_count);
     let new_stretch = stretch_of(new, new_count);
     let mut listing = Listing::new();
-    collect(old, new, old_stretch.count, new_stretch.count, &mut listing);
+    collect(old_stretch, new_stretch, &mut listing);
     if listing.count > MOST_STRETCHES {
         return Err(Refused {
             which: None,

@@ -3,7 +3,7 @@ ghost use Rattle.std.specs.Prelude.{◌≡◌, true, ℕ, ◌+◌, ◌^◌, ◌�
 ghost use Rattle.compare.specs.Code.Pairs.{Pair, PairsBelow};
 
 // Pairs of bytes that are compared at once.
-const PAIRS: usize = 64;
+pub(crate) const PAIRS: usize = 64;
 
 // Whether 64 pairs of bytes, from the one with index `at` on, are all equal, or all not, as asked. The loop has one exit, so that many
 // pairs are compared at once.

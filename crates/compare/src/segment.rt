@@ -1,12 +1,13 @@
 // Where the last byte at an address comes from, and up to which address all come from there.
 ghost use Rattle.std.specs.Prelude.{◌≡◌, ◌+◌, ◌%◌, min, length, get_or};
 ghost use Rattle.words.specs.Bytes.{little_endian};
-ghost use Rattle.plan.specs.Packed.{plan_pieces, Accepted};
+ghost use Rattle.plan.specs.Packed.{plan_pieces};
 ghost use Rattle.plan.specs.Meaning.{stretch};
 ghost use Rattle.compare.specs.LastByte.Segment.{nothing, source_byte, covering, border};
 ghost use Rattle.compare.specs.Code.Segment.{Short, span_in, source_from, source_is, narrowed, Reaches};
 
 use crate::compare::NOT_STORED;
+use crate::run::FirstStretch;
 use plan::piece::{Piece, Target, accepted_at};
 
 // The addresses of a piece: the first, and the first behind it. A run has none.
@@ -111,19 +112,18 @@ fn narrow(segment: Segment, piece: Piece, at: u64) -> Segment
     segment
 }
 
-// The segment from an address on, of the first `count` pieces of an accepted plan; it ends at `limit` at most.
-pub(crate) fn segment_at(plan: &[u8], count: u32, at: u64, limit: u64) -> Segment
-    requires { Accepted 1 plan.now × (count ≡ length (stretch (plan_pieces 1 plan.now))) }
-    ensures source_value { source_is plan.now result.source ≡ covering (stretch (plan_pieces 1 plan.now)) at nothing }
-    ensures end_value { result.end ≡ border (stretch (plan_pieces 1 plan.now)) at limit }
-    ensures reaches { Reaches plan.now result.source at result.end }
+// The segment from an address on, of the pieces of a stretch; it ends at `limit` at most.
+pub(crate) fn segment_at(first: FirstStretch, at: u64, limit: u64) -> Segment
+    ensures source_value { source_is first.entry.plan.now result.source ≡ covering (stretch (plan_pieces 1 first.entry.plan.now)) at nothing }
+    ensures end_value { result.end ≡ border (stretch (plan_pieces 1 first.entry.plan.now)) at limit }
+    ensures reaches { Reaches first.entry.plan.now result.source at result.end }
 {
     let mut segment = Segment {
         source: Source::Nothing,
         end: limit,
     };
-    for i in 0..count {
-        segment = narrow(segment, accepted_at(plan, Target::Any, i), at);
+    for i in 0..first.count {
+        segment = narrow(segment, accepted_at(first.plan, Target::Any, i), at);
     }
     segment
 }

@@ -1,10 +1,10 @@
 // The sources of both plans' last bytes.
 ghost use Rattle.std.specs.Prelude.{◌<◌};
 ghost use Rattle.compare.specs.Reading.{addresses};
-ghost use Rattle.compare.specs.Code.{Whole};
 ghost use Rattle.compare.specs.Code.Block.{Sides};
 
 use crate::reading::ADDRESSES;
+use crate::run::FirstStretch;
 use crate::segment::{Source, segment_at};
 
 // One source in each plan for all addresses up to an end.
@@ -16,12 +16,12 @@ pub(crate) struct Sources {
 }
 
 // The sources from an address on.
-pub(crate) fn sources_at(old: &[u8], new: &[u8], old_count: u32, new_count: u32, at: u64) -> Sources
-    requires { Whole old.now old_count × Whole new.now new_count × (at < addresses) }
-    ensures { Sides old.now new.now at result }
+pub(crate) fn sources_at(old: FirstStretch, new: FirstStretch, at: u64) -> Sources
+    requires { at < addresses }
+    ensures { Sides old.entry.plan.now new.entry.plan.now at result }
 {
-    let old_segment = segment_at(old, old_count, at, ADDRESSES);
-    let new_segment = segment_at(new, new_count, at, old_segment.end);
+    let old_segment = segment_at(old, at, ADDRESSES);
+    let new_segment = segment_at(new, at, old_segment.end);
     Sources {
         old: old_segment.source,
         new: new_segment.source,

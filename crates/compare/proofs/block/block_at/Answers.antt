@@ -1,45 +1,22 @@
 -- `compare::block::block_at` meets its contract: where both plans store, bytes are compared.
 use mathlib.Core.Path.{sym, ◌∙◌}
-use Prim.Native.Nat.{◌+◌}
 use native.Mathlib.Omega.{arith}
 use Rattle.plan.proofs.CodeLaws.{known_bytes}
-use Rattle.compare.specs.Code.Segment.{reaches-part}
 use Rattle.compare.proofs.CodeBlockLaws.{is-old, is-new, compared-alike, alike-without}
 use Rattle.compare.proofs.block.block_at.Goals as goal
-
-pub byte_at-old_byte-requires : goal.byte_at-old_byte-requires
-byte_at-old_byte-requires c = let s = c in
-    let x = s.args in
-    reaches-part x.old.now x.sources.old x.at x.sources.end x.at (x.at + 1) (omega arith) (omega (arith, s.requires.above)) s.requires.old-reaches
-
-pub byte_at-new_byte-requires : goal.byte_at-new_byte-requires
-byte_at-new_byte-requires c = let s = c in
-    let x = s.args in
-    reaches-part x.new.now x.sources.new x.at x.sources.end x.at (x.at + 1) (omega arith) (omega (arith, s.requires.above)) s.requires.new-reaches
-
-pub overflow_add-at : goal.overflow_add-at
-overflow_add-at c = let p = c.requires in omega (arith, p.above, p.most)
-
-pub until-stop-requires : goal.until-stop-requires
-until-stop-requires c = let s = c in
-    let x = s.args in (
-      reaches-part x.old.now x.sources.old x.at x.sources.end (x.at + 1) x.sources.end (omega arith) (omega arith) s.requires.old-reaches,
-      reaches-part x.new.now x.sources.new x.at x.sources.end (x.at + 1) x.sources.end (omega arith) (omega arith) s.requires.new-reaches,
-      omega (arith, s.requires.above),
-    )
 
 pub returns-then-both_store : goal.returns-then-both_store
 returns-then-both_store c = let s = c in
     let x = s.args in
     let o = c.byte_at-old_byte in
     let n = c.byte_at-new_byte in
-    let u = c.until-stop.ensures in record {
+    let u = c.until.ensures in record {
       at_lt_end = (omega (arith, u.lower_bound.0), u.lower_bound.1);
       result_value = (
         is-old x.old.now x.new.now x.at x.sources s.requires o.result n.result o.ensures n.ensures,
         is-new x.old.now x.new.now x.at x.sources s.requires o.result n.result o.ensures n.ensures,
       );
-      alike = compared-alike x.old.now x.new.now x.at x.sources s.requires o.result n.result o.ensures n.ensures c.until-stop.result u.lower_bound.1 u.alike;
+      alike = compared-alike x.old.now x.new.now x.at x.sources s.requires o.result n.result o.ensures n.ensures c.until.result u.lower_bound.1 u.alike;
     }
 
 pub returns : goal.returns

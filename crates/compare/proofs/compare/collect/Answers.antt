@@ -2,31 +2,14 @@
 use Rattle.std.proofs.Common.{arith}
 use Rattle.compare.specs.Reading.{addresses}
 use Rattle.compare.specs.Code.{image_of}
-use Rattle.compare.specs.Code.Collected.{collected-none, collected-many, collected-end}
+use Rattle.compare.specs.Code.Collected.{collected-none, collected-many}
 use Rattle.compare.proofs.compare.collect.Goals as goal
 
 pub loop-at-init : goal.loop-at-init
 loop-at-init c = let x = c.args in
-    (collected-none x.listing.now (image_of x.old.now) (image_of x.new.now) c.requires.2, omega arith)
+    (collected-none x.listing.now (image_of x.old.plan.now) (image_of x.new.plan.now) c.requires, omega arith)
 
 pub returns-then-listing-gt-MOST_STRETCHES : goal.returns-then-listing-gt-MOST_STRETCHES
 returns-then-listing-gt-MOST_STRETCHES c = let x = c.args in
     let l = c.loop-at in
-    collected-many l.listing (image_of x.old.now) (image_of x.new.now) l.at addresses l.invariant.1 (omega arith) l.invariant.0
-
-pub sources_at-sources-requires : goal.sources_at-sources-requires
-sources_at-sources-requires c = let p = c.requires in (p.0, p.1, omega arith)
-
-pub collect_blocks-requires : goal.collect_blocks-requires
-collect_blocks-requires c = (c.sources_at-sources.ensures, c.loop-at.invariant.0)
-
-pub loop-at-smaller : goal.loop-at-smaller
-loop-at-smaller c = let e = c.sources_at-sources.ensures in omega (arith, e.above, e.most)
-
-pub loop-at-preserved : goal.loop-at-preserved
-loop-at-preserved c = (c.collect_blocks.ensures, c.sources_at-sources.ensures.most)
-
-pub returns : goal.returns
-returns c = let x = c.args in
-    let l = c.loop-at in
-    collected-end l.listing (image_of x.old.now) (image_of x.new.now) l.at addresses l.invariant.1 (omega arith) l.invariant.0
+    collected-many l.listing (image_of x.old.plan.now) (image_of x.new.plan.now) l.at addresses l.invariant.1 (omega arith) l.invariant.0

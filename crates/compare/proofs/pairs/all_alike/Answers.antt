@@ -1,13 +1,10 @@
 -- `compare::pairs::all_alike` meets its contract: the pairs before `k` are as asked, if all still are.
-use Rattle.std.proofs.Common.{◌∙◌, sym, arith}
+use Rattle.std.proofs.Common.{◌∙◌, sym}
 use Rattle.words.proofs.ChoiceLaws.{true-is-false}
 use Rattle.compare.specs.Code.Pairs.{Pair}
 use Rattle.compare.proofs.CodeLaws.{beq-true, more}
 use Rattle.compare.proofs.pairs.all_alike.Goals as goal
 use Rattle.compare.proofs.pairs.all_alike.Goals.{then-old-new, else-old-new}
-
-pub loop-k-init : goal.loop-k-init
-loop-k-init g c = λ e y h k. absurd (omega arith)
 
 pub loop-k-preserved : goal.loop-k-preserved
 loop-k-preserved g c = let x = c.args in

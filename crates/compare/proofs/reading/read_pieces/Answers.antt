@@ -5,13 +5,8 @@ use native.Mathlib.Omega.{arith}
 use Rattle.plan.specs.Code.{judged_is, piece_is}
 use Rattle.compare.specs.Reading.{compared_pieces}
 use Rattle.compare.proofs.ReadingLaws.{compared-good, compared-bad, compared-end}
-use Rattle.compare.proofs.CodeAnswers.{reading_after, after_none, after-piece, after-all}
+use Rattle.compare.proofs.CodeAnswers.{reading_after, after-piece, after-all}
 use Rattle.compare.proofs.reading.read_pieces.Goals as goal
-
-pub loop-i-init : goal.loop-i-init
-loop-i-init c = let x = c.args in
-    let z : x.count - 0 ≡ x.count = omega arith in
-    rw z (after_none (compared_pieces x.plan.now x.count 0))
 
 pub loop-i-preserved : goal.loop-i-preserved
 loop-i-preserved c = let k = c in

@@ -1,11 +1,11 @@
 -- `comparison::lines::put_stretches` meets its contract. The loop's invariant: the lines of the first `i` stretches stand at the text's front.
-use mathlib.Core.Path.{◌≡◌, refl, ap, ◌∙◌}
-use Prim.Native.Nat.{ℕ, ◌*◌}
+use mathlib.Core.Path.{refl, ap, ◌∙◌}
+use Prim.Native.Nat.{◌*◌}
 use native.Mathlib.Omega.{arith}
 use Rattle.words.specs.declared.four.Four.{Four}
 use Rattle.words.specs.Store.{store}
 use Rattle.comparison.specs.Lines.{line}
-use Rattle.comparison.specs.Lines.Stretches.{stretch_of, stretches_in, stretch_lines, written_none, written_next}
+use Rattle.comparison.specs.Lines.Stretches.{stretch_of, written_none, written_next}
 use Rattle.comparison.proofs.lines.put_stretches.Goals as goal
 
 pub loop-i-init : goal.loop-i-init
@@ -17,12 +17,3 @@ loop-i-preserved c = let x = c.args in
     let p = c.put_line in
     let e = p.ensures ∙ ap (λ (w : Four). store l.text (l.i * 24) (line (stretch_of w))) c.read.ensures in
     (p.auto.text ∙ l.invariant.0, written_next x.text.now x.stretches.now l.i l.text p.new.text (omega arith) l.invariant.1 e)
-
-pub shape_of-text : goal.shape_of-text
-shape_of-text c = c.loop-i.invariant.0
-
-pub returns : goal.returns
-returns c = let x = c.args in
-    let l = c.loop-i in
-    let z : l.i ≡ x.count = omega arith in
-    l.invariant.1 ∙ ap (λ (k : ℕ). store x.text.now 0 (stretch_lines (stretches_in k x.stretches.now))) z

@@ -16,9 +16,6 @@ near c =
 apart : (c : Else-ends_before) → let g = c.args.self.now in 0 < g.count → (last_listed g).last + 1 ≡ c.args.stretch.first → ⊥
 apart c p q = true-is-false (sym (rw (lt-ltb _ _ p, eq-eqb _ _ q)) ∙ sym c.ends_before.ensures ∙ c.if-ends_before.false)
 
-pub overflow_sub-self : goal.overflow_sub-self
-overflow_sub-self c = omega (arith, (near (goal.at.overflow_sub-self c).Then-ends_before).0)
-
 pub returns-then-ends_before-clause-listing : goal.returns-then-ends_before-clause-listing
 returns-then-ends_before-clause-listing c = let n = near (goal.at.returns-then-ends_before-clause-listing c).Then-ends_before in
     λ l h. listed-lengthens c.args.self.now l h c.args.stretch (omega arith) n.0 n.1

@@ -1,6 +1,6 @@
 -- `compare::listing::Listing::put` meets its contract. The loop's invariant: the first `i` stretches stand in the output.
 use Rattle.std.proofs.Common.{refl, ◌∙◌, arith}
-use Rattle.compare.proofs.CompareOutput.{put-none, put-stretch, put_all}
+use Rattle.compare.proofs.CompareOutput.{put-none, put-stretch}
 use Rattle.compare.proofs.listing.Listing.put.Goals as goal
 
 pub loop-i-init : goal.loop-i-init
@@ -12,8 +12,3 @@ loop-i-preserved c = let x = c.args in
       λ t h. put-stretch x.self.now t h (omega arith) l.i (omega arith) x.output.now l.output c.put.new.s (omega arith) (l.invariant.0 t h) _ refl c.put.ensures,
       c.put.auto.s ∙ l.invariant.1,
     )
-
-pub returns : goal.returns
-returns c = let l = c.loop-i in
-    let x = c.args in
-    λ t h. put_all x.output.now l.output t l.i x.self.now.count (omega arith) (omega arith) h.0 (l.invariant.0 t h)
