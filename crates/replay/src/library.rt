@@ -1,136 +1,98 @@
-// The calls of the library for C, each with the numbers at the indices of its arguments.
-use crate::output;
+// The calls of the library for C.
+use crate::bytes::Buffers;
+use crate::output::{Answer, Hex, Shortened};
+use reidhintsje::comparison::reidhintsje_compare;
+use reidhintsje::load::{reidhintsje_aplx_load, reidhintsje_srom_load};
+use reidhintsje::packet::reidhintsje_scp_answer;
+use reidhintsje::plans::{reidhintsje_aplx_check, reidhintsje_plan_read};
+use reidhintsje::table::{reidhintsje_map_add, reidhintsje_map_sound};
 use std::io;
 
-pub(crate) fn word(n: usize) -> u32 {
-    (n % 4294967296) as u32
-}
-
-pub(crate) fn map_add<R: Print>(rt: &R, numbers: [usize; 9], table: &mut [u8]) -> io::Result<()> {
-    let answer = reidhintsje::table::reidhintsje_map_add(
-        table,
-        word(numbers[1]),
-        word(numbers[2]),
-        word(numbers[3]),
-        word(numbers[4]),
-    );
-    output::one(rt, answer as u64)?;
-    output::bytes(rt, table)
-}
-
-pub(crate) fn map_sound<R: Print>(rt: &R, numbers: [usize; 9], table: &[u8]) -> io::Result<()> {
-    let answer = reidhintsje::table::reidhintsje_map_sound(table, numbers[1]);
-    output::one(rt, answer as u64)
-}
-
-pub(crate) fn srom_load<R: Print>(
+pub(crate) fn map_add<R: Print>(
     rt: &R,
-    numbers: [usize; 9],
-    table: &[u8],
-    memory: &mut [u8],
-    rom: &[u8],
+    buffers: &mut Buffers,
+    base: u32,
+    length: u32,
+    place: u32,
+    rights: u32,
 ) -> io::Result<()> {
-    let mut outcome = [0u64; 8];
-    let answer = reidhintsje::load::reidhintsje_srom_load(
+    let number = reidhintsje_map_add(&mut buffers.table, base, length, place, rights);
+    println!(rt; "{number}\n{}", Hex(&buffers.table))
+}
+
+pub(crate) fn map_sound<R: Print>(rt: &R, buffers: &Buffers, size: usize) -> io::Result<()> {
+    rt.println(reidhintsje_map_sound(&buffers.table, size))
+}
+
+pub(crate) fn srom_load<R: Print>(rt: &R, buffers: &mut Buffers, offset: usize) -> io::Result<()> {
+    let Buffers {
         table,
         memory,
-        rom,
-        numbers[3],
-        &mut outcome,
-    );
-    output::numbers(rt, answer, outcome)?;
-    output::bytes(rt, memory)
+        input,
+        output: _,
+    } = buffers;
+    let answer = Answer::of(|outcome| reidhintsje_srom_load(table, memory, input, offset, outcome));
+    println!(rt; "{answer}\n{}", Hex(memory))
 }
 
-pub(crate) fn aplx_load<R: Print>(
-    rt: &R,
-    numbers: [usize; 9],
-    table: &[u8],
-    memory: &mut [u8],
-) -> io::Result<()> {
-    let mut outcome = [0u64; 8];
-    let answer = reidhintsje::load::reidhintsje_aplx_load(
+pub(crate) fn aplx_load<R: Print>(rt: &R, buffers: &mut Buffers, header: u32) -> io::Result<()> {
+    let Buffers {
         table,
         memory,
-        word(numbers[2]),
-        &mut outcome,
-    );
-    output::numbers(rt, answer, outcome)?;
-    output::bytes(rt, memory)
+        output: _,
+        input: _,
+    } = buffers;
+    let answer = Answer::of(|outcome| reidhintsje_aplx_load(table, memory, header, outcome));
+    println!(rt; "{answer}\n{}", Hex(memory))
 }
 
 pub(crate) fn scp_answer<R: Print>(
     rt: &R,
-    numbers: [usize; 9],
-    table: &[u8],
-    memory: &mut [u8],
-    packet: &[u8],
-    out: &mut [u8],
+    buffers: &mut Buffers,
+    identity: [u32; 5],
 ) -> io::Result<()> {
-    let identity = [
-        word(numbers[2]),
-        word(numbers[3]),
-        word(numbers[4]),
-        word(numbers[5]),
-        word(numbers[6]),
-    ];
-    let mut outcome = [0u64; 8];
-    let answer = reidhintsje::packet::reidhintsje_scp_answer(
+    let Buffers {
         table,
         memory,
-        &identity,
-        packet,
-        out,
-        &mut outcome,
-    );
-    output::numbers(rt, answer, outcome)?;
-    output::bytes(rt, memory)?;
-    output::bytes(rt, out)
+        output,
+        input,
+    } = buffers;
+    let answer = Answer::of(|outcome| {
+        reidhintsje_scp_answer(table, memory, &identity, input, output, outcome)
+    });
+    println!(rt; "{answer}\n{}\n{}", Hex(memory), Hex(output))
 }
 
-pub(crate) fn plan_read<R: Print>(rt: &R, numbers: [usize; 9], plan: &[u8]) -> io::Result<()> {
-    let mut outcome = [0u64; 8];
-    let answer = reidhintsje::plans::reidhintsje_plan_read(plan, word(numbers[1]), &mut outcome);
-    output::numbers(rt, answer, outcome)
+pub(crate) fn plan_read<R: Print>(rt: &R, buffers: &Buffers, target: u32) -> io::Result<()> {
+    rt.println(Answer::of(|outcome| reidhintsje_plan_read(&buffers.input, target, outcome)))
 }
 
-pub(crate) fn pack_srom<R: Print>(rt: &R, plan: &[u8], out: &mut [u8]) -> io::Result<()> {
-    let mut outcome = [0u64; 8];
-    let answer = reidhintsje::plans::reidhintsje_pack_srom(plan, out, &mut outcome);
-    output::numbers(rt, answer, outcome)?;
-    output::bytes(rt, out)
+// A call that writes what it makes of the input to the output.
+pub(crate) fn written<R: Print, F: FnOnce(&[u8], &mut [u8], &mut [u64; 8]) -> u32>(
+    rt: &R,
+    buffers: &mut Buffers,
+    call: F,
+) -> io::Result<()>
+    requires { F.IsAlwaysCallable call }
+{
+    let mut outcome = [0; 8];
+    let number = call(&buffers.input, &mut buffers.output, &mut outcome);
+    println!(rt; "{}\n{}", Answer { number, outcome }, Hex(&buffers.output))
 }
 
-pub(crate) fn pack_aplx<R: Print>(rt: &R, plan: &[u8], out: &mut [u8]) -> io::Result<()> {
-    let mut outcome = [0u64; 8];
-    let answer = reidhintsje::plans::reidhintsje_pack_aplx(plan, out, &mut outcome);
-    output::numbers(rt, answer, outcome)?;
-    output::bytes(rt, out)
+pub(crate) fn compare<R: Print>(rt: &R, buffers: &mut Buffers) -> io::Result<()> {
+    let Buffers {
+        table: _,
+        memory,
+        output,
+        input,
+    } = buffers;
+    let answer = Answer::of(|outcome| reidhintsje_compare(memory, input, output, outcome));
+    println!(rt; "{answer}\n{}", Shortened(output))
 }
 
-pub(crate) fn pack_aplx_shared<R: Print>(rt: &R, plan: &[u8], out: &mut [u8]) -> io::Result<()> {
-    let mut outcome = [0u64; 8];
-    let answer = reidhintsje::plans::reidhintsje_pack_aplx_shared(plan, out, &mut outcome);
-    output::numbers(rt, answer, outcome)?;
-    output::bytes(rt, out)
-}
-
-pub(crate) fn aplx_read<R: Print>(rt: &R, image: &[u8], out: &mut [u8]) -> io::Result<()> {
-    let mut outcome = [0u64; 8];
-    let answer = reidhintsje::plans::reidhintsje_aplx_read(image, out, &mut outcome);
-    output::numbers(rt, answer, outcome)?;
-    output::bytes(rt, out)
-}
-
-pub(crate) fn compare<R: Print>(rt: &R, old: &[u8], new: &[u8], out: &mut [u8]) -> io::Result<()> {
-    let mut outcome = [0u64; 8];
-    let answer = reidhintsje::comparison::reidhintsje_compare(old, new, out, &mut outcome);
-    output::numbers(rt, answer, outcome)?;
-    output::shortened(rt, out)
-}
-
-pub(crate) fn aplx_check<R: Print>(rt: &R, plan: &[u8], image: &[u8]) -> io::Result<()> {
-    let mut outcome = [0u64; 8];
-    let answer = reidhintsje::plans::reidhintsje_aplx_check(plan, image, &mut outcome);
-    output::numbers(rt, answer, outcome)
+pub(crate) fn aplx_check<R: Print>(rt: &R, buffers: &Buffers) -> io::Result<()> {
+    rt.println(Answer::of(|outcome| {
+        reidhintsje_aplx_check(&buffers.memory, &buffers.input, outcome)
+    }))
 }

@@ -1,106 +1,55 @@
 // One line after the other.
-use crate::calls::{arguments, call_of};
+use crate::bytes::Buffers;
+use crate::call::Call;
 use crate::make::make;
-use crate::output;
-use crate::scan::{NONE, behind, behind_word, place_of};
+use crate::read;
 use std::io;
 
-// Whether the line says nothing.
-fn silent(line: &[u8]) -> bool {
-    if line.len() == 0 {
-        return true;
-    }
-    behind(line, 0, b'#') != NONE
+// What a line asks.
+enum Line<'a> {
+    Nothing,
+    Name(&'a [u8]),
+    Call { name: &'a [u8], call: Call },
 }
 
-// Whether the line names the next call; the name is written then.
-fn name<R: Print>(rt: &R, line: &[u8]) -> io::Result<bool> {
-    let from = behind_word(line, b": ");
-    if from > line.len() {
-        return Ok(false);
+fn asked<'a>(line: &'a [u8], buffers: &mut Buffers) -> Option<Line<'a>> {
+    if line.is_empty() || line.starts_with(b"#") {
+        return Some(Line::Nothing);
     }
-    output::text(rt, &line[from..])?;
-    output::text(rt, b": ")?;
-    Ok(true)
+    if let Some(name) = line.strip_prefix(b": ") {
+        return Some(Line::Name(name));
+    }
+    let (name, call) = read::call(line, buffers)?;
+    Some(Line::Call { name, call })
 }
 
-// Writes the name of the call.
-fn title<R: Print>(rt: &R, line: &[u8]) -> io::Result<()> {
-    let end = place_of(line, 0, b' ');
-    output::text(rt, &line[..end])?;
-    output::text(rt, b"\n")
-}
-
-// Whether the line is a call; it was made then.
-fn call<R: Print>(
-    rt: &R,
-    line: &[u8],
-    kept: &mut [usize; 4],
-    table: &mut [u8; 8192],
-    memory: &mut [u8; 8192],
-    out: &mut [u8; 8192],
-    input: &mut [u8; 8192],
-) -> io::Result<bool> {
-    let mut numbers = [0usize; 9];
-    let called = call_of(line);
-    if !arguments(
-        line,
-        place_of(line, 0, b' '),
-        called,
-        kept,
-        &mut numbers,
-        table,
-        memory,
-        out,
-        input,
-    ) {
-        return Ok(false);
-    }
-    title(rt, line)?;
-    make(rt, called, *kept, numbers, table, memory, out, input)?;
-    Ok(true)
-}
-
-// Whether the line is one of the three kinds.
-fn one<R: Print>(
-    rt: &R,
-    line: &[u8],
-    kept: &mut [usize; 4],
-    table: &mut [u8; 8192],
-    memory: &mut [u8; 8192],
-    out: &mut [u8; 8192],
-    input: &mut [u8; 8192],
-) -> io::Result<bool> {
-    if silent(line) {
-        return Ok(true);
-    }
-    if name(rt, line)? {
-        return Ok(true);
-    }
-    call(rt, line, kept, table, memory, out, input)
-}
-
-// Whether every line is one of the three kinds. Ends at the first that is not, and writes its number.
-pub(crate) fn all<R: Print>(
-    rt: &R,
-    text: &[u8],
-    kept: &mut [usize; 4],
-    table: &mut [u8; 8192],
-    memory: &mut [u8; 8192],
-    out: &mut [u8; 8192],
-    input: &mut [u8; 8192],
-) -> io::Result<bool> {
-    let mut at: usize = 0;
-    let mut number: u64 = 0;
-    while at < text.len() {
-        let end = place_of(text, at, b'\n');
-        number += 1;
-        if !one(rt, &text[at..end], kept, table, memory, out, input)? {
-            output::text(rt, b"not a call: line ")?;
-            output::one(rt, number)?;
-            return Ok(false);
+// Does what a line asks: writes the name of the next call, or makes a call.
+fn answer<R: Print>(rt: &R, line: Line, buffers: &mut Buffers) -> io::Result<()> {
+    match line {
+        Line::Nothing => Ok(()),
+        Line::Name(name) => {
+            rt.write_all(name)?;
+            rt.write_all(b": ")
         }
-        at = end + 1;
+        Line::Call { name, call } => {
+            rt.write_all(name)?;
+            rt.write_all(b"\n")?;
+            make(rt, call, buffers)
+        }
+    }
+}
+
+// Whether every line was one that asks something. Ends at the first that is not, and writes its number.
+pub(crate) fn all<R: Print>(rt: &R, text: &[u8]) -> io::Result<bool> {
+    let mut buffers = Buffers::default();
+    for (index, line) in text.split(|byte| *byte == b'\n').enumerate() {
+        match asked(line, &mut buffers) {
+            Some(line) => answer(rt, line, &mut buffers)?,
+            None => {
+                println!(rt; "not a call: line {}", index + 1)?;
+                return Ok(false);
+            }
+        }
     }
     Ok(true)
 }

@@ -6,58 +6,45 @@ ghost use Rattle.std.specs.Prelude.{◌≡◌, length};
 use std::io;
 use std::rt::Files;
 
-mod output; // text, numbers and bytes
 mod scan; // the characters of a line
-mod argument; // one argument of a call
-mod calls; // which call a line names, and its arguments
+mod bytes; // the byte strings of the calls
+mod arguments; // the arguments of a line
+mod call; // the calls
+mod read; // which call a line names, and its arguments
+mod lines; // one line after the other
+mod make; // makes a call
 mod library; // the calls of the library for C
 mod maps; // the questions that a map alone answers
 mod flood_fill_calls; // the calls of the flood-fill receiver
-mod make; // makes a call
-mod lines; // one line after the other
+mod output; // what is written
 
-// Whether the lines of a text were replayed to the end. The buffers of the calls are empty before the first.
+// The bytes of a file that are read. One that has as many may be longer, and isn't replayed.
+const MOST_BYTES: usize = 1048576;
+
+// Whether the text of a file was replayed to its end.
 fn replayed<R: Print>(rt: &R, text: &[u8]) -> io::Result<bool> {
-    let mut kept = [0usize; 4];
-    let mut table = [0u8; 8192];
-    let mut memory = [0u8; 8192];
-    let mut out = [0u8; 8192];
-    let mut input = [0u8; 8192];
-    lines::all(
-        rt,
-        text,
-        &mut kept,
-        &mut table,
-        &mut memory,
-        &mut out,
-        &mut input,
-    )
-}
-
-// Whether the text of a file was replayed. A file that fills the buffer may be longer.
-fn checked<R: Print>(rt: &R, text: &[u8]) -> io::Result<bool> {
-    if text.len() == 0 {
-        output::text(rt, b"a file is empty, or was not found\n")?;
+    if text.is_empty() {
+        println!(rt; "a file is empty, or was not found")?;
         return Ok(false);
     }
-    if text.len() >= 1048576 {
-        output::text(rt, b"a file is too long\n")?;
+    if text.len() >= MOST_BYTES {
+        println!(rt; "a file is too long")?;
         return Ok(false);
     }
-    replayed(rt, text)
+    lines::all(rt, text)
 }
 
 // Room for the text of a file. Its length is all that is known of it, so that a proof need not go through it.
-fn room() -> [u8; 1048576]
+fn room() -> [u8; MOST_BYTES]
     ensures { 1048576 ≡ length result }
 {
-    [0; 1048576]
+    [0; MOST_BYTES]
 }
 
 fn file<R: Files + Print>(rt: &R, name: &str) -> io::Result<bool> {
     let mut text = room();
-    let n = file_bytes::read_file(rt, name, &mut text);
-    checked(rt, &text[..n])
+    let end = file_bytes::read_file(rt, name, &mut text);
+    replayed(rt, &text[..end])
 }
 
 fn main(rt: HostRuntime) -> io::Result<()> {

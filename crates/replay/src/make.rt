@@ -1,70 +1,59 @@
-// Makes a call with the bytes and numbers that were read.
-ghost use Rattle.file_bytes.specs.Counts.{IsPrefixLen};
-
+// Makes a call with the bytes and numbers that were read, and writes what it answers.
+use crate::bytes::Buffers;
+use crate::call::Call;
 use crate::{flood_fill_calls, library, maps};
+use reidhintsje::message::{
+    reidhintsje_flood_fill_block_data, reidhintsje_flood_fill_block_end,
+    reidhintsje_flood_fill_block_start, reidhintsje_flood_fill_start,
+};
+use reidhintsje::plans::{
+    reidhintsje_aplx_read, reidhintsje_pack_aplx, reidhintsje_pack_aplx_shared,
+    reidhintsje_pack_srom,
+};
 use std::io;
 
-// So many bytes of a buffer, or none where it has fewer.
-fn fit(buffer: &[u8], n: usize) -> usize
-    ensures { IsPrefixLen result buffer.now }
-{
-    if n <= buffer.len() { n } else { 0 }
-}
-
-// The call with buffers of their lengths.
-fn made<R: Print>(
-    rt: &R,
-    call: u32,
-    numbers: [usize; 9],
-    table: &mut [u8],
-    memory: &mut [u8],
-    out: &mut [u8],
-    input: &[u8],
-) -> io::Result<()> {
+pub(crate) fn make<R: Print>(rt: &R, call: Call, buffers: &mut Buffers) -> io::Result<()> {
     match call {
-        1 => library::map_add(rt, numbers, table),
-        2 => library::srom_load(rt, numbers, table, memory, input),
-        3 => library::aplx_load(rt, numbers, table, memory),
-        4 => library::scp_answer(rt, numbers, table, memory, input, out),
-        5 => library::plan_read(rt, numbers, input),
-        6 => library::pack_srom(rt, input, out),
-        7 => library::pack_aplx(rt, input, out),
-        8 => library::map_sound(rt, numbers, table),
-        9 => maps::lookup(rt, numbers, table),
-        10 => maps::run_entry(rt, numbers, table),
-        11 => flood_fill_calls::start(rt, numbers, table, memory),
-        12 => flood_fill_calls::block_start(rt, numbers, table, memory),
-        13 => flood_fill_calls::block_data(rt, numbers, table, memory),
-        14 => flood_fill_calls::block_end(rt, numbers, table, memory),
-        15 => library::aplx_read(rt, input, out),
-        16 => library::compare(rt, memory, input, out),
-        17 => library::aplx_check(rt, memory, input),
-        _ => library::pack_aplx_shared(rt, input, out),
+        Call::MapAdd {
+            base,
+            length,
+            place,
+            rights,
+        } => library::map_add(rt, buffers, base, length, place, rights),
+        Call::MapSound { size } => library::map_sound(rt, buffers, size),
+        Call::Lookup {
+            right,
+            address,
+            length,
+        } => maps::lookup(rt, &buffers.table, right, address, length),
+        Call::RunEntry { address } => maps::run_entry(rt, &buffers.table, address),
+        Call::SromLoad { offset } => library::srom_load(rt, buffers, offset),
+        Call::AplxLoad { header } => library::aplx_load(rt, buffers, header),
+        Call::ScpAnswer { identity } => library::scp_answer(rt, buffers, identity),
+        Call::PlanRead { target } => library::plan_read(rt, buffers, target),
+        Call::PackSrom => library::written(rt, buffers, reidhintsje_pack_srom),
+        Call::PackAplx => library::written(rt, buffers, reidhintsje_pack_aplx),
+        Call::PackAplxShared => library::written(rt, buffers, reidhintsje_pack_aplx_shared),
+        Call::AplxRead => library::written(rt, buffers, reidhintsje_aplx_read),
+        Call::Compare => library::compare(rt, buffers),
+        Call::AplxCheck => library::aplx_check(rt, buffers),
+        Call::FloodFillStart { last_block, size } => {
+            flood_fill_calls::left(rt, buffers, |receiver, image, outcome| {
+                reidhintsje_flood_fill_start(receiver, image, last_block, size, outcome)
+            })
+        }
+        Call::FloodFillBlockStart { block, size } => {
+            flood_fill_calls::left(rt, buffers, |receiver, image, outcome| {
+                reidhintsje_flood_fill_block_start(receiver, image, block, size, outcome)
+            })
+        }
+        Call::FloodFillBlockData {
+            block,
+            word_id,
+            word,
+        } => flood_fill_calls::left(rt, buffers, |receiver, image, outcome| {
+            reidhintsje_flood_fill_block_data(receiver, image, block, word_id, word, outcome)
+        }),
+        Call::FloodFillBlockEnd { block } => flood_fill_calls::block_end(rt, buffers, block),
     }
-}
-
-// The call, each buffer cut to the length that was kept for it.
-pub(crate) fn make<R: Print>(
-    rt: &R,
-    call: u32,
-    kept: [usize; 4],
-    numbers: [usize; 9],
-    table: &mut [u8],
-    memory: &mut [u8],
-    out: &mut [u8],
-    input: &[u8],
-) -> io::Result<()> {
-    let t = fit(table, kept[0]);
-    let m = fit(memory, kept[1]);
-    let o = fit(out, kept[2]);
-    let i = fit(input, kept[3]);
-    made(
-        rt,
-        call,
-        numbers,
-        &mut table[..t],
-        &mut memory[..m],
-        &mut out[..o],
-        &input[..i],
-    )
 }

@@ -1,0 +1,65 @@
+// The byte strings of the calls, as a line writes them and as a call leaves them.
+use crate::scan::{decimal, hex_digit, split_once};
+use arrayvec::ArrayVec;
+
+// The most bytes of a byte string.
+const MOST_BYTES: usize = 8192;
+
+// The most times that the bytes of a part stand in a row.
+const MOST_TIMES: u32 = 65536;
+
+pub(crate) type Bytes = ArrayVec<u8, MOST_BYTES>;
+
+// What the last call that had one left: a table (or a flood-fill receiver), a memory, an output, an input.
+#[derive(Default, Drop)]
+pub(crate) struct Buffers {
+    pub table: Bytes,
+    pub memory: Bytes,
+    pub output: Bytes,
+    pub input: Bytes,
+}
+
+// Adds the bytes of pairs of hex digits.
+fn add_pairs(bytes: &mut Bytes, digits: &[u8]) -> Option<()> {
+    for pair in digits.chunks(2) {
+        let [high, low] = pair else {
+            return None;
+        };
+        let byte = 16 * hex_digit(*high)? + hex_digit(*low)?;
+        bytes.try_push(byte).ok()?;
+    }
+    Some(())
+}
+
+// How often the bytes of a part stand in a row.
+fn times_of(text: &[u8]) -> Option<u32> {
+    match decimal(text)? {
+        times @ 1..=MOST_TIMES => Some(times),
+        _ => None,
+    }
+}
+
+// Adds the bytes of a part.
+fn add_part(bytes: &mut Bytes, part: &[u8]) -> Option<()> {
+    let part = part.strip_prefix(b"x")?;
+    let (digits, times) = match split_once(part, b'*') {
+        Some((digits, times)) => (digits, times_of(times)?),
+        None => (part, 1),
+    };
+    for _ in 0..times {
+        add_pairs(bytes, digits)?;
+    }
+    Some(())
+}
+
+// Reads a byte string; where it is the last call's, the bytes stay.
+pub(crate) fn read(bytes: &mut Bytes, text: &[u8]) -> Option<()> {
+    if text == b"=".as_slice() {
+        return Some(());
+    }
+    bytes.clear();
+    for part in text.split(|character| *character == b'+') {
+        add_part(bytes, part)?;
+    }
+    Some(())
+}
