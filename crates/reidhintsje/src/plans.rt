@@ -1,5 +1,5 @@
 // The reader of plans, the packers, the reader of APLX images, and their check against a plan.
-ghost use Rattle.std.specs.Prelude.{◌≡◌};
+ghost use Rattle.std.specs.Prelude.{◌≡◌, ℕ};
 ghost use Rattle.plan.specs.Plan.{read_plan};
 ghost use Rattle.plan.specs.Packed.{written_length};
 ghost use Rattle.plan.specs.Code.{unit_of};
@@ -8,7 +8,7 @@ ghost use Rattle.srom_pack.specs.Image.{srom_image};
 ghost use Rattle.aplx_pack.specs.Image.{aplx_image};
 ghost use Rattle.aplx_read.specs.PlanBytes.{plan_bytes};
 ghost use Rattle.aplx_read.specs.ReadBack.{read_image};
-ghost use Rattle.outcome_numbers.specs.Numbers.{first};
+ghost use Rattle.outcome_numbers.specs.Numbers.{first, pack_numbers};
 ghost use Rattle.outcome_numbers.specs.Numbers.Laws.{too_small};
 ghost use Rattle.reidhintsje.specs.Calls.{unit_at, read_call, srom_pack_call, aplx_pack_call, aplx_shared_pack_call, aplx_read_call, aplx_check_call};
 
@@ -22,16 +22,15 @@ const APLX: u32 = 0;
 
 const SROM: u32 = 1;
 
+#[tactic(auto, unfolding(crate::specs::Calls::unit_at))]
 fn target_of(target: u32) -> Target
     ensures { unit_of result ≡ unit_at target }
 {
-    if target == APLX {
-        return Target::Aplx;
+    match target {
+        APLX => Target::Aplx,
+        SROM => Target::Srom,
+        _ => Target::Any,
     }
-    if target == SROM {
-        return Target::Srom;
-    }
-    Target::Any
 }
 
 // Reads a plan.
@@ -80,6 +79,16 @@ fn aplx_length(plan: &[u8]) -> u64
     }
 }
 
+// Puts what a packer answered. Where the output was too small the length that it asks for is counted.
+fn put_packed<F: FnOnce() -> u64>(answer: Answer, length: F, outcome: &mut [u64; 8]) -> u32
+    requires { F.IsAlwaysCallable length }
+    ensures value { result ≡ first outcome.new }
+    ensures outcome_after { (k : ℕ) → ((n : ℕ) → F.post length n → n ≡ k) → outcome.new ≡ pack_numbers k (packer.outcome_is answer) }
+{
+    let needed = if too_small(answer) { length() } else { 0 };
+    put(outcome, packed_parts(answer, needed))
+}
+
 // Packs a plan as a serial ROM image at the output's front. A plan whose image does not fit is read once more for the image's length.
 pub fn reidhintsje_pack_srom(plan: &[u8], output: &mut [u8], outcome: &mut [u64; 8]) -> u32
     ensures value { result ≡ first outcome.new }
@@ -87,11 +96,7 @@ pub fn reidhintsje_pack_srom(plan: &[u8], output: &mut [u8], outcome: &mut [u64;
     ensures output_after { output.new ≡ (srom_pack_call plan.now output.old).output }
 {
     let answer = srom_pack::pack::pack(plan, output);
-    if too_small(answer) {
-        let image = srom_length(plan);
-        return put(outcome, packed_parts(answer, image));
-    }
-    put(outcome, packed_parts(answer, 0))
+    put_packed(answer, || srom_length(plan), outcome)
 }
 
 // Packs a plan as an APLX image at the output's front. A plan whose image does not fit is read once more for the image's length.
@@ -101,11 +106,7 @@ pub fn reidhintsje_pack_aplx(plan: &[u8], output: &mut [u8], outcome: &mut [u64;
     ensures output_after { output.new ≡ (aplx_pack_call plan.now output.old).output }
 {
     let answer = aplx_pack::pack::pack(plan, output);
-    if too_small(answer) {
-        let image = aplx_length(plan);
-        return put(outcome, packed_parts(answer, image));
-    }
-    put(outcome, packed_parts(answer, 0))
+    put_packed(answer, || aplx_length(plan), outcome)
 }
 
 // Packs a plan as an APLX image that keeps one copy of equal put data, at the output's front. A plan whose image does not fit is read once
@@ -116,11 +117,11 @@ pub fn reidhintsje_pack_aplx_shared(plan: &[u8], output: &mut [u8], outcome: &mu
     ensures output_after { output.new ≡ (aplx_shared_pack_call plan.now output.old).output }
 {
     let answer = aplx_share::pack::pack(plan, output);
-    if too_small(answer) {
-        let image = aplx_share::pack::image_length(plan) as u64;
-        return put(outcome, packed_parts(answer, image));
-    }
-    put(outcome, packed_parts(answer, 0))
+    put_packed(
+        answer,
+        || aplx_share::pack::image_length(plan) as u64,
+        outcome,
+    )
 }
 
 // The length of an image's plan, or 0 where the image is refused.
@@ -144,11 +145,7 @@ pub fn reidhintsje_aplx_read(image: &[u8], output: &mut [u8], outcome: &mut [u64
     ensures output_after { output.new ≡ (aplx_read_call image.now output.old).output }
 {
     let answer = aplx_read::read_back::read_back(image, output);
-    if too_small(answer) {
-        let plan = plan_length(image);
-        return put(outcome, packed_parts(answer, plan));
-    }
-    put(outcome, packed_parts(answer, 0))
+    put_packed(answer, || plan_length(image), outcome)
 }
 
 // Checks an APLX image against a plan.
