@@ -1,26 +1,9 @@
 // The arguments of a line, one after the other.
 use crate::bytes;
 use crate::bytes::Bytes;
+use crate::scan::{decimal, split_once};
 use receiver_bytes::layout::RECEIVER;
-use std::str;
 use std::str::FromStr;
-
-// What stands before the first such character and what stands behind it.
-pub(crate) fn split_once(text: &[u8], character: u8) -> Option<(&[u8], &[u8])> {
-    let end = text.iter().position(|byte| *byte == character)?;
-    Some((&text[..end], &text[end + 1..]))
-}
-
-// A number in decimal digits alone.
-pub(crate) fn decimal<N: FromStr>(text: &[u8]) -> Option<N>
-where
-    N::Err: Drop,
-{
-    if !text.iter().all(|byte| byte.is_ascii_digit()) {
-        return None;
-    }
-    str::from_utf8(text).ok()?.parse().ok()
-}
 
 // The arguments that are left, each but the first behind a space.
 #[derive(Drop)]
@@ -55,11 +38,7 @@ impl<'a> Arguments<'a> {
     // A flood-fill receiver: a table of its length.
     pub fn receiver(&mut self, table: &mut Bytes) -> Option<()> {
         self.bytes(table)?;
-        if table.len() == RECEIVER {
-            Some(())
-        } else {
-            None
-        }
+        (table.len() == RECEIVER).then_some(())
     }
 
     pub fn number<N: FromStr>(&mut self) -> Option<N>

@@ -1,7 +1,5 @@
 // The byte strings of the calls, as a line writes them and as a call leaves them.
-ghost use Rattle.std.specs.Prelude.{◌<◌, IfSome};
-
-use crate::arguments::{decimal, split_once};
+use crate::scan::{decimal, hex_digit, split_once};
 use arrayvec::ArrayVec;
 
 // The most bytes of a byte string.
@@ -13,34 +11,12 @@ const MOST_TIMES: u32 = 65536;
 pub(crate) type Bytes = ArrayVec<u8, MOST_BYTES>;
 
 // What the last call that had one left: a table (or a flood-fill receiver), a memory, an output, an input.
-#[derive(Drop)]
+#[derive(Default, Drop)]
 pub(crate) struct Buffers {
     pub table: Bytes,
     pub memory: Bytes,
     pub output: Bytes,
     pub input: Bytes,
-}
-
-impl Buffers {
-    pub fn new() -> Buffers {
-        Buffers {
-            table: ArrayVec::new(),
-            memory: ArrayVec::new(),
-            output: ArrayVec::new(),
-            input: ArrayVec::new(),
-        }
-    }
-}
-
-// The value of a hex digit.
-fn hex_digit(character: u8) -> Option<u8>
-    ensures { IfSome result (λ digit. digit < 16) }
-{
-    match character {
-        b'0'..=b'9' => Some(character - b'0'),
-        b'a'..=b'f' => Some(character - b'a' + 10),
-        _ => None,
-    }
 }
 
 // Adds the bytes of pairs of hex digits.
@@ -57,11 +33,9 @@ fn add_pairs(bytes: &mut Bytes, digits: &[u8]) -> Option<()> {
 
 // How often the bytes of a part stand in a row.
 fn times_of(text: &[u8]) -> Option<u32> {
-    let times = decimal(text)?;
-    if 0 < times && times <= MOST_TIMES {
-        Some(times)
-    } else {
-        None
+    match decimal(text)? {
+        times @ 1..=MOST_TIMES => Some(times),
+        _ => None,
     }
 }
 

@@ -13,7 +13,7 @@ enum Line<'a> {
 }
 
 fn asked<'a>(line: &'a [u8], buffers: &mut Buffers) -> Option<Line<'a>> {
-    if line.is_empty() || line[0] == b'#' {
+    if line.is_empty() || line.starts_with(b"#") {
         return Some(Line::Nothing);
     }
     if let Some(name) = line.strip_prefix(b": ") {
@@ -41,7 +41,7 @@ fn answer<R: Print>(rt: &R, line: Line, buffers: &mut Buffers) -> io::Result<()>
 
 // Whether every line was one that asks something. Ends at the first that is not, and writes its number.
 pub(crate) fn all<R: Print>(rt: &R, text: &[u8]) -> io::Result<bool> {
-    let mut buffers = Buffers::new();
+    let mut buffers = Buffers::default();
     for (index, line) in text.split(|byte| *byte == b'\n').enumerate() {
         match asked(line, &mut buffers) {
             Some(line) => answer(rt, line, &mut buffers)?,

@@ -6,6 +6,7 @@ ghost use Rattle.std.specs.Prelude.{◌≡◌, length};
 use std::io;
 use std::rt::Files;
 
+mod scan; // the characters of a line
 mod bytes; // the byte strings of the calls
 mod arguments; // the arguments of a line
 mod call; // the calls
@@ -42,8 +43,8 @@ fn room() -> [u8; MOST_BYTES]
 
 fn file<R: Files + Print>(rt: &R, name: &str) -> io::Result<bool> {
     let mut text = room();
-    let n = file_bytes::read_file(rt, name, &mut text);
-    replayed(rt, &text[..n])
+    let end = file_bytes::read_file(rt, name, &mut text);
+    replayed(rt, &text[..end])
 }
 
 fn main(rt: HostRuntime) -> io::Result<()> {

@@ -1,7 +1,8 @@
 // Which call a line names, and its arguments.
-use crate::arguments::{Arguments, split_once};
+use crate::arguments::Arguments;
 use crate::bytes::Buffers;
 use crate::call::Call;
+use crate::scan::split_once;
 use memory_region::region::Right;
 
 fn map_add(arguments: &mut Arguments, buffers: &mut Buffers) -> Option<Call> {
