@@ -1,6 +1,6 @@
 // The plan of an image.
 ghost use Rattle.std.specs.Prelude.{◌≡◌, ◌+◌, ◌≤◌, ◌<◌, length};
-ghost use Rattle.plan.specs.Packed.{output_after, outcome_of};
+ghost use Rattle.plan.specs.Packed.{output_after, outcome_of, written_length};
 ghost use Rattle.plan.specs.Code.{put_length, piece_is};
 ghost use Rattle.plan.specs.Code.Packer.{Writable, outcome_is};
 ghost use Rattle.aplx_read.specs.PlanBytes.{plan_bytes};
@@ -71,4 +71,11 @@ pub fn read_back(image: &[u8], output: &mut [u8]) -> Result<usize, Refusal>
     ensures output_after { output.new ≡ output_after (read_back image.now (length output.old)) output.old }
 {
     plan::pack::pack::<PlanOfImage>(image, output)
+}
+
+// The length of an image's plan, or 0 where the image is refused.
+pub fn plan_length(image: &[u8]) -> usize
+    ensures { result ≡ written_length plan_bytes (read_image image.now) }
+{
+    plan::pack::image_length::<PlanOfImage>(image)
 }
