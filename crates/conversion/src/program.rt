@@ -19,7 +19,10 @@ pub fn convert_file<R: Read>(packing: Packing, file: &mut R, output: &mut [u8; 6
 }
 
 // What is written for the image in a file. One byte more is read than an image may have, so that a longer one is seen.
-pub fn read_back_file<R: Read>(file: &mut R, output: &mut [u8; 32768]) -> Result<usize, ImageTooLong>
+pub fn read_back_file<R: Read>(
+    file: &mut R,
+    output: &mut [u8; 32768],
+) -> Result<usize, ImageTooLong>
     ensures from_image_file { FromImageFile (R.remaining file.old) (R.remaining file.new) output.old result output.new }
     ensures inside { Inside result output.new }
 {

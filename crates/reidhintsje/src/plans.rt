@@ -91,11 +91,7 @@ pub fn reidhintsje_pack_aplx_shared(plan: &[u8], output: &mut [u8], outcome: &mu
     ensures output_after { output.new ≡ (aplx_shared_pack_call plan.now output.old).output }
 {
     let answer = aplx_share::pack::pack(plan, output);
-    put_packed(
-        answer,
-        || aplx_share::pack::image_length(plan),
-        outcome,
-    )
+    put_packed(answer, || aplx_share::pack::image_length(plan), outcome)
 }
 
 // Reads an APLX image back as a plan at the output's front. An image whose plan does not fit is read once more for the plan's length.
