@@ -1,5 +1,5 @@
 -- Computed examples of what is written for a plan, and for an image.
-use Rattle.std.specs.Prelude.{◌≡◌, refl, List, [], ◌∷◌, ◌++◌, ℕ, replicate}
+use Rattle.std.specs.Prelude.{◌≡◌, refl, List, [], ◌∷◌, ◌++◌, ℕ, replicate, Ok, Err}
 use Rattle.words.specs.Four.{four_bytes}
 use Rattle.words.specs.Store.{store}
 use Rattle.plan.specs.Plan.{put}
@@ -12,7 +12,6 @@ use Rattle.text.specs.Digits.{digits}
 use Rattle.text.specs.Decimal.{leading, width, decimal}
 use Rattle.text.specs.Refusal.{refusal_line}
 use Rattle.conversion.specs.declared.convert.Packing.TheVariants.{Aplx, SharedAplx, Srom}
-use Rattle.conversion.specs.declared.read_back.Written.TheVariants.{Bytes, TooLong}
 use Rattle.conversion.specs.Conversion.{pack_for, converted, written}
 use Rattle.conversion.specs.Restored.{bytes, nothing, restored, answer_of, output_of}
 
@@ -96,8 +95,8 @@ record Restorations : Type 0 where
   pub longer : restored (end ++ replicate 65521 0) 32768 ≡ nothing
   pub refused-longest : restored (replicate 65536 0) 32768 ≡ bytes (refusal_line 20 0)
   -- what is answered, and what is left of an output
-  pub answered : answer_of (restored [] 32768) ≡ Bytes 15
-  pub answered-longer : answer_of (restored (replicate 65537 0) 32768) ≡ TooLong
+  pub answered : answer_of (restored [] 32768) ≡ Ok 15
+  pub answered-longer : answer_of (restored (replicate 65537 0) 32768) ≡ Err (record {})
   pub left : output_of (restored [] 17) (replicate 17 9) ≡ refusal_line 2 0 ++ 9 ∷ 9 ∷ []
   pub left-longer : output_of (restored (replicate 65537 0) 17) (replicate 17 9) ≡ replicate 17 9
 

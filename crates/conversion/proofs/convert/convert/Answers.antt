@@ -10,7 +10,8 @@ use Rattle.conversion.proofs.convert.convert.Goals as goal
 pub returns-then-plan-gt32768 : goal.returns-then-plan-gt32768
 returns-then-plan-gt32768 c = let x = c.args in
     let w = c.put.ensures in
-    let d = too_long x.packing x.plan.now x.output.now (omega arith) w.value w.output_after in
+    let n = c.number.ensures in
+    let d = too_long x.packing x.plan.now x.output.now (omega arith) (rw n at w.value) (rw n at w.output_after) in
     record { value = d.length-is; output_after = d.output-is; upper_bound = d.inside }
 
 pub returns : goal.returns

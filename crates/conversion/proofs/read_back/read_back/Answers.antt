@@ -18,7 +18,7 @@ returns-then-image-gt65536 c = let x = c.args in
 pub returns : goal.returns
 returns c = let x = c.args in
     let w = c.read_back-answer in
-    let s = c.show-size in
+    let s = c.show in
     let n = length x.output.now in
     let t =
     shown-done (read_back x.image.now n) x.output.now w.new.output (plan-fits x.image.now n)

@@ -3,5 +3,5 @@ use Rattle.conversion.proofs.shown.show.Goals as goal
 
 pub returns-in-Err : goal.returns-in-Err
 returns-in-Err c = let p = c.put.ensures in
-    let e = c.in-Err.is in
-    simp e (record { value = p.value; output_after = p.output_after })
+    let n = c.number.ensures in
+    simp c.in-Err.is (record { value = rw n at p.value; output_after = rw n at p.output_after })
