@@ -10,7 +10,7 @@ use Rattle.words.specs.Bytes.{little_endian_at}
 use Rattle.memory_region.specs.declared.region.Region.{Region}
 use Rattle.memory_map.specs.Map.{Addition, taken, refused, add, well_formed, sound}
 use Rattle.memory_map.proofs.MapAdded.{taken-room}
-use Rattle.map_table.specs.Table.{region_of, region_in, regions_in, rights_known, count_in, regular, map_of, no_map, table_of, addition, table_after}
+use Rattle.map_table.specs.Table.{region_in, regions_in, rights_known, count_in, regular, map_of, no_map, table_of, table_after}
 
 -- ---- regular tables
 module _ (t : List ℕ) where
@@ -108,16 +108,6 @@ taken-regular t g e = go (regular t) refl
     go : (b : Bool) → regular t ≡ b → regular t ≡ true
     go true q = q
     go false q = let z : 9 < 8 = rw (map-of-other t q) at (taken-room (map_of t) g e) in absurd (omega arith)
-
--- ---- additions
-module _ (t : List ℕ) (b n p w : ℕ) where
-  pub over-addition : 7 < w → addition t b n p w ≡ record { map = map_of t; verdict = refused 1 0 }
-  unfolding addition
-  over-addition h = simp (lt-ltb 7 w h)
-
-  pub known-addition : w ≤ 7 → addition t b n p w ≡ add (map_of t) (region_of b n p w)
-  unfolding addition
-  known-addition h = simp (le-ltb 7 w h)
 
 -- ---- the table after an addition
 module _ (t : List ℕ) (a : Addition) where
