@@ -109,6 +109,16 @@ taken-regular t g e = go (regular t) refl
     go true q = q
     go false q = let z : 9 < 8 = rw (map-of-other t q) at (taken-room (map_of t) g e) in absurd (omega arith)
 
+-- ---- additions
+module _ (t : List ℕ) (b n p w : ℕ) where
+  pub over-addition : 7 < w → addition t b n p w ≡ record { map = map_of t; verdict = refused 1 0 }
+  unfolding addition
+  over-addition h = simp (lt-ltb 7 w h)
+
+  pub known-addition : w ≤ 7 → addition t b n p w ≡ add (map_of t) (region_of b n p w)
+  unfolding addition
+  known-addition h = simp (le-ltb 7 w h)
+
 -- ---- the table after an addition
 module _ (t : List ℕ) (a : Addition) where
   pub after-taken : a.verdict ≡ taken → table_after t a ≡ table_of a.map
