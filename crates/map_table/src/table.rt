@@ -19,6 +19,7 @@ const MOST_REGIONS: usize = 8;
 const ALL_RIGHTS: u32 = 7;
 
 // 1 read, 2 write, 4 run.
+#[tactic(auto, unfolding(crate::specs::Table::rights_of))]
 fn rights_of(bits: u32) -> Rights
     ensures { result ≡ rights_of bits }
 {
@@ -29,6 +30,7 @@ fn rights_of(bits: u32) -> Rights
     }
 }
 
+#[tactic(auto, unfolding(crate::specs::Table::region_of))]
 fn region_of(base: u32, length: u32, place: u32, bits: u32) -> Region
     ensures { result ≡ region_of base length place bits }
 {
@@ -42,6 +44,7 @@ fn region_of(base: u32, length: u32, place: u32, bits: u32) -> Region
 }
 
 // The region whose four words stand at an offset.
+#[tactic(auto, unfolding(crate::specs::Table::region_in))]
 fn region_in(table: &[u8], at: usize) -> Region
     ensures { result ≡ region_in table.now at }
 {
@@ -63,14 +66,12 @@ fn rights_known(table: &[u8], count: usize) -> bool
 }
 
 // Whether a table has its length, no more regions than it can hold, and known rights in those in use.
+#[tactic(auto, unfolding(crate::specs::Table::regular))]
 fn regular(table: &[u8]) -> bool
     ensures { result ≡ regular table.now }
 {
     let count = le_word_at(table, 0) as usize;
-    if table.len() != TABLE || count > MOST_REGIONS {
-        return false;
-    }
-    rights_known(table, count)
+    table.len() == TABLE && count <= MOST_REGIONS && rights_known(table, count)
 }
 
 // The map that a table is; another table is no sound map.
@@ -95,6 +96,7 @@ fn bit_of(given: bool, bit: u32) -> u32
     if given { bit } else { 0 }
 }
 
+#[tactic(auto, unfolding(crate::specs::Table::rights_number))]
 fn number_of(rights: Rights) -> u32
     ensures { result ≡ rights_number rights }
 {
@@ -102,6 +104,7 @@ fn number_of(rights: Rights) -> u32
 }
 
 // The four words of a region at an offset.
+#[tactic(auto, unfolding(crate::specs::Table::region_bytes))]
 fn put_region(table: &mut [u8], at: usize, region: Region)
     ensures { table.new ≡ store_if_fits table.old at (region_bytes region) }
 {
@@ -121,6 +124,7 @@ fn put_table(table: &mut [u8], map: Map)
 }
 
 // Adds a region, and writes the table of the map that has it. A refused addition leaves the table as it was.
+#[tactic(auto, unfolding(crate::specs::Table::addition, crate::specs::Table::table_after))]
 pub fn add(table: &mut [u8], base: u32, length: u32, place: u32, rights: u32) -> Result<(), Refusal>
     ensures result_value { verdict_of result ≡ (addition table.old base length place rights).verdict }
     ensures table_after { table.new ≡ table_after table.old (addition table.old base length place rights) }
