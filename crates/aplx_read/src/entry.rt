@@ -60,20 +60,20 @@ fn judge_copy(
     }))
 }
 
-// The entry with an index that has these four words. The 65th piece is one too many.
+// The entry with an index that has these four words: the end word, an RCOPY of 2, a FILL of 3 or an EXEC of 4. The 65th piece is one too many.
 #[tactic(auto, unfolding(crate::specs::ReadBack::judge_words, crate::specs::ReadBack::judge_range))]
 fn judge_words(
     image: &[u8],
     index: u32,
-    c: u32,
+    command: u32,
     x: u32,
     y: u32,
     z: u32,
 ) -> Result<Option<Piece>, Cause>
-    ensures { entry_is result ≡ judge_words image.now index c x y z }
+    ensures { entry_is result ≡ judge_words image.now index command x y z }
 {
-    match c {
-        4294967295 => Ok(None),
+    match command {
+        0xffffffff => Ok(None),
         2 | 3 | 4 if index >= 64 => Err(Cause::TooManyPieces),
         2 => {
             judge_range(x, z)?;

@@ -10,7 +10,7 @@ use Rattle.words.specs.Bytes.{little_endian_at}
 use Rattle.memory_region.specs.declared.region.Region.{Region}
 use Rattle.memory_map.specs.Map.{Addition, taken, refused, add, well_formed, sound}
 use Rattle.memory_map.proofs.MapAdded.{taken-room}
-use Rattle.map_table.specs.Table.{region_in, regions_in, rights_known, count_in, regular, map_of, no_map, table_of, table_after}
+use Rattle.map_table.specs.Table.{region_of, region_in, regions_in, rights_known, count_in, regular, map_of, no_map, table_of, addition, table_after}
 
 -- ---- regular tables
 module _ (t : List ℕ) where

@@ -4,7 +4,7 @@ use Rattle.plan.specs.declared.piece.Piece.TheVariants.{Put}
 use Rattle.plan.specs.Code.Packer.{Writable}
 use Rattle.aplx_check.proofs.CodeLaws.{bytes_left}
 use Rattle.aplx_check.proofs.due.is_due.Goals as goal
-use Rattle.aplx_check.proofs.due.is_due.Goals.{In-Fill, In-Put}
+use Rattle.aplx_check.proofs.due.is_due.Goals.{In-Put}
 
 -- what is required of a put
 put-fits : (c : In-Put) → let x = c.args in
