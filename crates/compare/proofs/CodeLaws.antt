@@ -90,12 +90,6 @@ beq_same true false e = true-is-false e
 beq_same false true e = true-is-false e
 beq_same false false e = refl
 
-pub beq-true : (a b : Bool) → beq a b ≡ true → a ≡ b
-beq-true true true e = refl
-beq-true true false e = true-is-false (sym e)
-beq-true false true e = true-is-false (sym e)
-beq-true false false e = refl
-
 pub equal-pairs : {a b c d : ℕ} → a ≡ c → b ≡ d → eqb a b ≡ eqb c d
 equal-pairs {a} {b} {c} {d} e f = ap (λ (k : ℕ). eqb k b) e ∙ ap (eqb c) f
 

@@ -1,9 +1,20 @@
 // Pairs of bytes, one of each plan: how many in a row are equal, or are not.
-ghost use Rattle.std.specs.Prelude.{◌≡◌, true, ℕ, ◌+◌, ◌^◌, ◌≤◌, ◌<◌};
+ghost use Rattle.std.specs.Prelude.{◌≡◌, true, ℕ, ◌+◌, ◌^◌, ◌≤◌, ◌<◌, eqb};
 ghost use Rattle.compare.specs.Code.Pairs.{Pair, PairsBelow};
 
 // Pairs of bytes that are compared at once.
 pub(crate) const PAIRS: usize = 64;
+
+// Whether one more pair of bytes is equal, or is not, as asked, and so were all before it. A function of its own: written out in the loop,
+// it gets no vector instructions.
+fn is_alike(all: bool, old: u8, new: u8, same: bool) -> bool
+    ensures { result ≡ true → (all ≡ true) × (eqb old new ≡ same) }
+{
+    if (old == new) != same {
+        return false;
+    }
+    all
+}
 
 // Whether 64 pairs of bytes, from the one with index `at` on, are all equal, or all not, as asked. The loop has one exit, so that many
 // pairs are compared at once.
@@ -19,7 +30,7 @@ fn all_alike<F: Fn(usize) -> u8, G: Fn(usize) -> u8>(
 {
     let mut all = true;
     for k in at..at + PAIRS {
-        all = (old(k) == new(k)) == same && all;
+        all = is_alike(all, old(k), new(k), same);
     }
     all
 }
