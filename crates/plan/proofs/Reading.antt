@@ -2,17 +2,13 @@
 use mathlib.Core.Path.{◌≡◌}
 use mathlib.Core.List.{List}
 use Prim.Native.Nat.{ℕ, ◌+◌, ◌-◌, ◌≤◌, ◌<◌}
-use native.Mathlib.Omega.{arith}
 use lib.ListN.{length}
 use Rattle.plan.specs.Plan.{data_of, filled_by, Row, piece_in, good, bad, piece_at, read_pieces}
 use Rattle.plan.proofs.PlanSteps.{read-good, read-bad, read-end}
-use Rattle.plan.specs.Code.{refuses, reads, outcome_of}
-use Rattle.plan.proofs.CodeCounting.{outcome_after, after_none, after-piece, after-all}
+use Rattle.plan.specs.Code.{refuses, reads}
+use Rattle.plan.proofs.CodeCounting.{outcome_after, after-piece, after-all}
 
--- reading k pieces, at the start and at the piece with index i
-pub counts_start : (unit : ℕ) (s : List ℕ) (k : ℕ) → outcome_after 0 0 0 (read_pieces unit s (k - 0) 0) ≡ outcome_of (read_pieces unit s k 0)
-counts_start unit s k = let z : k - 0 ≡ k = omega arith in rw z (after_none (read_pieces unit s k 0))
-
+-- reading k pieces, at the piece with index i
 module _ (unit : ℕ) (s : List ℕ) (k i p f : ℕ) where
   pub counts-good : {row : Row} → i < k → piece_at unit s i ≡ good row → let q = piece_in s row in
       outcome_after i p f (read_pieces unit s (k - i) i) ≡ outcome_after (i + 1) (p + length (data_of q)) (f + filled_by q) (read_pieces unit s (k - (i + 1)) (i + 1))
