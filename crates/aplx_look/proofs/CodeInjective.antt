@@ -8,7 +8,7 @@ use Rattle.outcome.specs.declared.refusal.Refusal.{Refusal}
 use Rattle.outcome.specs.Outcome.{Ending, stops, refuses}
 use Rattle.outcome.proofs.OutcomeInjective.{back-injective, cause_back, cause-back, refusal_back, refusal-back, stop_back, stop-back}
 use Rattle.aplx_look.specs.Walk.{Verdict, goes, halts, Walk}
-use Rattle.aplx_look.specs.Code.{verdict_is, walk_is}
+use Rattle.aplx_look.specs.Code.{verdict_is, ending_is, walk_is}
 
 abbrev verdict_back : Verdict → Result (Option CodeStop.Stop) Cause
 verdict_back goes = Ok None
@@ -22,6 +22,17 @@ verdict-back i (Err c) = ap (λ (x : Cause). Err x) (cause-back c)
 
 pub verdict-injective : (i : ℕ) (x y : Result (Option CodeStop.Stop) Cause) → verdict_is i x ≡ verdict_is i y → x ≡ y
 verdict-injective i = back-injective (verdict_is i) verdict_back (verdict-back i)
+
+abbrev ending_back : Ending → Result CodeStop.Stop Refusal
+ending_back (stops s) = Ok (stop_back s)
+ending_back (refuses n p) = Err (refusal_back n p)
+
+ending-back : (x : Result CodeStop.Stop Refusal) → ending_back (ending_is x) ≡ x
+ending-back (Ok s) = ap (λ (x : CodeStop.Stop). Ok x) (stop-back s)
+ending-back (Err r) = ap (λ (x : Refusal). Err x) (refusal-back r)
+
+pub ending-injective : (x y : Result CodeStop.Stop Refusal) → ending_is x ≡ ending_is y → x ≡ y
+ending-injective = back-injective ending_is ending_back ending-back
 
 abbrev walk_back_to : ℕ → Ending → Result (ℕ × CodeStop.Stop) Refusal
 walk_back_to c (stops s) = Ok (c, stop_back s)

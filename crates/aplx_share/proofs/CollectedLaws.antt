@@ -1,7 +1,7 @@
 -- Laws of the contents that the code keeps as places of the plan and lengths.
-use Rattle.std.specs.Prelude.{◌≡◌, Bool, true, false, List, [], ◌∷◌, ◌++◌, ℕ, ◌≤◌, ◌<◌, eqb, length, take, drop, get_or, set, if◌then◌else◌}
-use Rattle.std.proofs.Common.{ap, sym, ◌∙◌, add-zero, arith, length-append, get_or-drop, drop-cons, get_or-set_same, get_or-set_other, eqb-true}
-use Rattle.std.proofs.lemmas.List.{length-map, get_or-map}
+use Rattle.std.specs.Prelude.{◌≡◌, refl, Bool, true, false, List, [], ◌∷◌, ◌++◌, ℕ, zero, suc, ◌+◌, ◌≤◌, ◌<◌, eqb, length, take, drop, get_or, set, if◌then◌else◌}
+use Rattle.std.proofs.Common.{ap, sym, ◌∙◌, add-zero, add-one, arith, length-append, length-take-le, take-suc-set, get_or-drop, drop-cons, get_or-set_same, get_or-set_other, eqb-true}
+use Rattle.std.proofs.lemmas.List.{length-map, get_or-map, map-append}
 use Rattle.plan.specs.declared.piece.Piece as CodePiece
 use Rattle.plan.specs.declared.piece.Piece.TheVariants.{Put}
 use Rattle.plan.specs.Plan.{Piece, put, fill, run, read_plan}
@@ -19,7 +19,8 @@ use Rattle.aplx_share.proofs.ContentsLaws.{total_length-contents, different-shor
 use Rattle.aplx_share.proofs.ContentsPlaces.{place_inside}
 use Rattle.aplx_share.specs.SharedImage.{place_of}
 use Rattle.aplx_share.specs.declared.contents.Content.{Content}
-use Rattle.aplx_share.specs.Collected.{bytes_of, contents_at, Inside, Located}
+use Rattle.aplx_share.specs.declared.contents.Kept.{Kept}
+use Rattle.aplx_share.specs.Collected.{bytes_of, contents_at, used, kept_at, Inside, Located}
 
 -- an element, one of which was set
 pub set_at : (l : List ℕ) (i v k : ℕ) (t : Bool) → i < length l → eqb k i ≡ t → get_or (set l i v) k 0 ≡ (if t then v else get_or l k 0)
@@ -49,7 +50,26 @@ module _ (s : List ℕ) (cs : List Content) (k : ℕ) (h : k < length cs) where
     pub length-kept : length (get_or (contents_at s cs) k []) ≡ (get_or cs k d).length
     length-kept = ap length (sym part-kept) ∙ data-length s (get_or cs k d).start (get_or cs k d).length is-inside.inside
 
+-- the contents that stand at these places, each by itself
+pub in-contents_at : (s : List ℕ) (cs : List Content) (k : ℕ) → k ≤ length cs → k ≤ length (contents_at s cs)
+in-contents_at s cs k h = rw (length-map cs (bytes_of s)) h
+
+pub content-at : (s : List ℕ) (cs : List Content) (k : ℕ) → k < length cs → get_or (contents_at s cs) k [] ≡ bytes_of s (get_or cs k no_content)
+content-at s cs k h = get_or-map (bytes_of s) cs k no_content [] h
+
+pub set-contents_at : (s : List ℕ) (cs : List Content) (k : ℕ) (c : Content) → contents_at s (set cs k c) ≡ set (contents_at s cs) k (bytes_of s c)
+set-contents_at s [] k c = refl
+set-contents_at s (x ∷ cs) zero c = refl
+set-contents_at s (x ∷ cs) (suc k) c = rw (set-contents_at s cs k c)
+
+pub length-kept_at : (s : List ℕ) (k : Kept) → k.count ≤ length k.contents → length (kept_at s k) ≡ k.count
+length-kept_at s k h = length-map (used k) (bytes_of s) ∙ length-take-le k.count k.contents h
+
 -- ---- one more
+pub kept_more : (s : List ℕ) (cs : List Content) (c : Content) (count : ℕ) → count < length cs
+    → contents_at s (take (count + 1) (set cs count c)) ≡ contents_at s (take count cs) ++ bytes_of s c ∷ []
+kept_more s cs c count h = rw (add-one count, take-suc-set cs count c h, map-append (bytes_of s) (take count cs) (c ∷ []))
+
 module _ (s : List ℕ) (cs : List Content) (c : Content) where
   pub located-more : length cs < 64 → Inside s c → Located s cs → Located s (cs ++ c ∷ [])
   located-more h i l = record {

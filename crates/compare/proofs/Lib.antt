@@ -12,3 +12,4 @@ pub mod LastByteMeaning
 pub mod ListedLaws
 pub mod ReadingBytes
 pub mod ReadingLaws
+pub mod WordsLaws

@@ -1,4 +1,4 @@
--- Laws of the tests: what a message that passed them grants.
+-- Laws of the tests: by the image, and what a message that passed them grants.
 use Rattle.std.specs.Prelude.{◌≡◌, refl, Bool, true, false, ℕ, suc, ◌≤◌, ◌<◌, leb, eqb, if◌then◌else◌, Err}
 use Rattle.std.proofs.Common.{leb-false}
 use Rattle.flood_fill.specs.declared.message.Message.{Message}
@@ -8,6 +8,15 @@ use Rattle.outcome.specs.declared.refusal.Cause.TheVariants.{ImageTooShort, Outs
 use Rattle.flood_fill.specs.Limits.{within_limits, right_size}
 use Rattle.flood_fill.proofs.LimitsLaws.{Limits, limits, size-bounds}
 use Rattle.flood_fill.specs.Refusals.{is_short, test_start, test_block_start, passed, own_tests, tested}
+
+-- ---- by the image
+pub tested-short : (h : Header) (m : Message) (bytes : ℕ) → is_short h m bytes ≡ true → tested h m bytes ≡ Err ImageTooShort
+unfolding tested
+tested-short h m bytes e = rw e
+
+pub tested-long : (h : Header) (m : Message) (bytes : ℕ) → is_short h m bytes ≡ false → tested h m bytes ≡ own_tests h m
+unfolding tested
+tested-long h m bytes e = rw e
 
 -- ---- the tests of the message itself
 never : {A : Type 0} {x : Cause} → Err x ≡ passed → A

@@ -9,7 +9,7 @@ use Rattle.plan.specs.Plan.{Piece, Read, refused, pieces}
 use Rattle.plan.specs.Packed.{Packed, refuses, packed_as, output_after, Outcome, refusal, sized, outcome_of, written_length, pieces_in}
 use Rattle.plan.specs.Code as reader
 use Rattle.plan.proofs.CodeLaws.{Counted}
-use Rattle.plan.specs.Code.Packer.{ReadAs}
+use Rattle.plan.specs.Code.Packer.{ReadAs, ImageFits}
 
 -- what the reader counts was read
 pub counted-read : {t : Read} {n p f : ℕ} → Counted t n p f → ReadAs t n
@@ -37,6 +37,9 @@ module _ (image : List Piece → List ℕ) (t : Read) (m : List ℕ) where
   module _ {n : ℕ} (c : ReadAs t n) {size : ℕ} (e : size ≡ length (image (pieces_in t))) where
     pub leaves-small : length m < size → Leaves (refusal 10 n) m
     leaves-small h = rw c.accepted (rw (lt-ltb (length m) (length (image (pieces_in t))) (omega arith)) (ap (refusal 10) c.counts, refl))
+
+    pub image-fits : size ≤ length m → ImageFits image t n (length m)
+    image-fits h = record { accepted = c.accepted; counts = c.counts; few = c.few; fits = omega arith }
 
     pub leaves-image : {after : List ℕ} → size ≤ length m → after ≡ store m 0 (image (pieces_in t)) → Leaves (sized size) after
     leaves-image h g = rw c.accepted (rw (le-ltb (length m) (length (image (pieces_in t))) (omega arith)) (ap sized e, g))
