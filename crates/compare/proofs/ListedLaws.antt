@@ -3,7 +3,7 @@ use Rattle.std.specs.Prelude.{◌≡◌, List, ℕ, ◌+◌, ◌-◌, ◌≤◌,
 use Rattle.std.proofs.Common.{ap, sym, ◌∙◌, arith, get_or-take}
 use Rattle.std.proofs.lemmas.List.{length-map, map-set, get_or-map}
 use Rattle.stretches.specs.Stretches.{Stretch, add}
-use Rattle.stretches.proofs.StretchesWordsLaws.{listing-lengthens, listing-appends}
+use Rattle.stretches.proofs.StretchesRecordsLaws.{recorded-lengthens, recorded-appends}
 use Rattle.compare.specs.declared.listing.Stretch as CodeStretch
 use Rattle.compare.specs.declared.listing.Listing.{Listing}
 use Rattle.compare.specs.Code.Listed.{stretch_is, last_listed, Listed}
@@ -26,11 +26,11 @@ module _ (g : Listing) (l : List Stretch) (h : Listed g l) where
     pub listed-lengthens : 0 < g.count → (last_listed g).last + 1 ≡ t.first
         → Listed (record { stretches = set g.stretches (g.count - 1) (record { first = (last_listed g).first; last = t.last; old = (last_listed g).old; new = (last_listed g).new }); count = g.count }) (add (stretch_is t) l)
     listed-lengthens k e =
-        let i = listing-lengthens (map stretch_is g.stretches) g.count l h (stretch_is t) none k (ap (λ (s : Stretch). s.last + 1) (last-is k) ∙ e) in
+        let i = recorded-lengthens (map stretch_is g.stretches) g.count l h (stretch_is t) none k (ap (λ (s : Stretch). s.last + 1) (last-is k) ∙ e) in
         rw (map-set stretch_is g.stretches (g.count - 1) (record { first = (last_listed g).first; last = t.last; old = (last_listed g).old; new = (last_listed g).new })) (rw (last-is k) at i)
 
     pub listed-appends : (0 < g.count → (last_listed g).last + 1 ≡ t.first → ⊥)
         → Listed (record { stretches = set g.stretches g.count t; count = g.count + 1 }) (add (stretch_is t) l)
     listed-appends apart =
-        let i = listing-appends (map stretch_is g.stretches) g.count l h (stretch_is t) none (rw length-map few) (λ k e. apart k (ap (λ (s : Stretch). s.last + 1) (sym (last-is k)) ∙ e)) in
+        let i = recorded-appends (map stretch_is g.stretches) g.count l h (stretch_is t) none (rw length-map few) (λ k e. apart k (ap (λ (s : Stretch). s.last + 1) (sym (last-is k)) ∙ e)) in
         rw (map-set stretch_is g.stretches g.count t) i

@@ -2,7 +2,7 @@
 use Rattle.std.specs.Prelude.{◌≡◌, List, [], ℕ, ◌≤◌, length}
 use Rattle.words.specs.Store.{store}
 use Rattle.words.proofs.StoreLaws.{store-nil}
-use Rattle.scp.specs.Answer.{responds, coded, answered}
+use Rattle.scp.specs.Answer.{Reply, responds, coded, without, answered}
 use Rattle.scp.specs.Reply.{header}
 use Rattle.scp.proofs.ReplyLaws.{length-header}
 
@@ -15,3 +15,6 @@ coded_answer s m out code h = simp (length-header s h code)
 -- no response
 pub no_response : (out : List ℕ) → store out 0 [] ≡ out
 no_response out = store-nil out 0
+
+pub without-answer : (s m out : List ℕ) (r : Reply) → answered (without r m) out ≡ record { reply = r; memory = m; output = out }
+without-answer s m out r = simp (store-nil out 0)

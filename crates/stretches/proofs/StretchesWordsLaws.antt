@@ -1,13 +1,13 @@
 -- Laws of a list of stretches as words.
-use Rattle.std.specs.Prelude.{◌≡◌, refl, ℕ, suc, ◌+◌, ◌-◌, ◌*◌, ◌<◌, get_or, set}
+use Rattle.std.specs.Prelude.{◌≡◌, refl, ℕ, suc, ◌+◌, ◌-◌, ◌*◌, ◌≤◌, ◌<◌, take, drop, get_or, set}
 use Rattle.std.proofs.Math.Path.{ap}
 use Rattle.std.proofs.Common.{sym, ◌∙◌, length-append, get_or-take, eq-eqb, ne_eqb}
-use mathlib.Core.List.{List, [], ◌∷◌, ◌++◌}
+use mathlib.Core.List.{List, [], ◌∷◌, ◌++◌, append_assoc}
 use native.Mathlib.Omega.{arith}
-use Rattle.std.proofs.Math.ListN.{length, length-set}
-use Rattle.std.proofs.lemmas.List.{take_more_set}
-use Rattle.std.proofs.Math.Seq.{take-set-lt}
-use Rattle.stretches.specs.Stretches.{Stretch, up_to, add, below}
+use Rattle.std.proofs.Math.ListN.{length}
+use Rattle.std.proofs.Math.Seq.{length-take-le, take_at, take-set-lt}
+use Rattle.words.specs.Store.{store}
+use Rattle.stretches.specs.Stretches.{Stretch, add, below}
 use Rattle.stretches.specs.Stretches.Words.{words_of, last_word, Listing}
 
 pub length-words : (l : List Stretch) → length (words_of l) ≡ 4 * length l
@@ -15,7 +15,7 @@ unfolding words_of
 length-words [] = refl
 length-words (s ∷ l) = omega (arith, length-words l)
 
-last_word-behind : (s r : Stretch) (l : List Stretch) → last_word (s ∷ r ∷ l) ≡ last_word (r ∷ l)
+pub last_word-behind : (s r : Stretch) (l : List Stretch) → last_word (s ∷ r ∷ l) ≡ last_word (r ∷ l)
 unfolding words_of
 last_word-behind s r l =
     let z : 4 * length (s ∷ r ∷ l) - 3 ≡ suc (suc (suc (suc (4 * length (r ∷ l) - 3)))) = omega arith in
@@ -51,56 +51,41 @@ unfolding words_of
 words_append [] k = refl
 words_append (s ∷ l) k = rw (words_append l k)
 
--- ---- in a longer list of stretches
--- the last of them
-last_at : (s r : Stretch) (l : List Stretch) → length (s ∷ r ∷ l) - 1 ≡ suc (length (r ∷ l) - 1)
-last_at s r l = omega arith
+-- ---- in a longer list of words
+module _ (words : List ℕ) (n : ℕ) (l : List Stretch) (h : Listing n words l) (t : Stretch) where
+  last_of : 0 < n → get_or words (4 * n - 3) 0 ≡ last_word l
+  last_of g = sym (get_or-take (4 * n) words (4 * n - 3) 0 (omega arith)) ∙ ap (λ (k : List ℕ). get_or k (4 * n - 3) 0) h.1 ∙ ap (λ (k : ℕ). get_or (words_of l) (4 * k - 3) 0) h.0
 
-last_word-is : (l : List Stretch) (d : Stretch) → 0 < length l → last_word l ≡ (get_or l (length l - 1) d).last
-unfolding words_of
-last_word-is [] d h = absurd (omega arith)
-last_word-is (s ∷ []) d h = refl
-last_word-is (s ∷ r ∷ l) d h = let z = last_at s r l in rw z (last_word-behind s r l ∙ last_word-is (r ∷ l) d (omega arith))
-
--- one stretch more that adjoins it
-add-extends : (t : Stretch) (l : List Stretch) (d : Stretch) → 0 < length l → suc (get_or l (length l - 1) d).last ≡ t.first
-    → add t l ≡ set l (length l - 1) (up_to t.last (get_or l (length l - 1) d))
-unfolding add
-add-extends t [] d h e = absurd (omega arith)
-add-extends t (s ∷ []) d h e = rw (eq-eqb _ _ e)
-add-extends t (s ∷ r ∷ l) d h e =
-    let z = last_at s r l in
-    let f = rw z at e in
-    rw z (ap (λ (k : List Stretch). s ∷ k) (add-extends t (r ∷ l) d (omega arith) f))
-
-module _ (s : List Stretch) (n : ℕ) (l : List Stretch) (h : Listing n s l) (t d : Stretch) where
-  last_of : 0 < n → get_or s (n - 1) d ≡ get_or l (length l - 1) d
-  last_of g = sym (get_or-take n s (n - 1) d (omega arith)) ∙ ap (λ (k : List Stretch). get_or k (n - 1) d) h.1 ∙ ap (λ (k : ℕ). get_or l (k - 1) d) h.0
-
-  pub listing-lengthens : 0 < n → (get_or s (n - 1) d).last + 1 ≡ t.first → Listing n (set s (n - 1) (up_to t.last (get_or s (n - 1) d))) (add t l)
+  pub listing-lengthens : 0 < n → get_or words (4 * n - 3) 0 + 1 ≡ t.first → Listing n (set words (4 * n - 3) t.last) (add t l)
   listing-lengthens g e =
-      let k : 0 < length l = omega (arith, h.0) in
-      let f : suc (get_or l (length l - 1) d).last ≡ t.first = omega (arith, ap (λ (s : Stretch). s.last) (last_of g)) in
-      let a = add-extends t l d k f in (
-        rw (a, length-set) h.0,
-        take-set-lt n s (n - 1) (up_to t.last (get_or s (n - 1) d)) (omega arith)
-            ∙ ap (λ (k : List Stretch). set k (n - 1) (up_to t.last (get_or s (n - 1) d))) h.1
-            ∙ ap (λ (s : Stretch). set l (n - 1) (up_to t.last s)) (last_of g)
-            ∙ ap (λ (m : ℕ). set l (m - 1) (up_to t.last (get_or l (length l - 1) d))) h.0
-            ∙ sym a,
+      let f : suc (last_word l) ≡ t.first = omega (arith, last_of g) in
+      let k : 0 < length l = omega (arith, h.0) in (
+        h.0 ∙ sym (length-lengthens t l k f),
+        take-set-lt (4 * n) words (4 * n - 3) t.last (omega arith)
+            ∙ ap (λ (w : List ℕ). set w (4 * n - 3) t.last) h.1
+            ∙ ap (λ (m : ℕ). set (words_of l) (4 * m - 3) t.last) h.0
+            ∙ sym (add-lengthens t l k f),
       )
 
-  pub listing-appends : n < length s → (0 < n → (get_or s (n - 1) d).last + 1 ≡ t.first → ⊥) → Listing (n + 1) (set s n t) (add t l)
+  pub listing-appends : 4 * n + 4 ≤ length words → (0 < n → get_or words (4 * n - 3) 0 + 1 ≡ t.first → ⊥)
+      → Listing (n + 1) (store words (4 * n) (t.first ∷ t.last ∷ t.old ∷ t.new ∷ [])) (add t l)
+  unfolding store words_of
   listing-appends g apart =
-      let a = add-appends t l (λ k f. apart (omega (arith, h.0)) (omega (arith, last_word-is l d k, ap (λ (s : Stretch). s.last) (last_of (omega (arith, h.0)))))) in (
+      let d = t.first ∷ t.last ∷ t.old ∷ t.new ∷ [] in
+      let a = add-appends t l (λ k f. apart (omega (arith, h.0)) (omega (arith, last_of (omega (arith, h.0))))) in
+      let z : 4 * (n + 1) ≡ 4 * n + 4 = omega arith in
+      let front : length (take (4 * n) words ++ d) ≡ 4 * n + 4 = rw (length-append, length-take-le (4 * n) words (omega arith)) in (
         rw (a, length-append) (omega (arith, h.0)),
-        rw a (take_more_set s n t g ∙ ap (λ (k : List Stretch). k ++ t ∷ []) h.1),
+        rw (a, z, words_append l (t ∷ []))
+            (ap (take (4 * n + 4)) (sym (append_assoc (take (4 * n) words) d (drop (4 * n + 4) words)))
+            ∙ take_at (take (4 * n) words ++ d) (drop (4 * n + 4) words) (4 * n + 4) front
+            ∙ ap (λ (w : List ℕ). w ++ d) h.1),
       )
 
 -- none yet
-pub listing_none : (old new : ℕ → ℕ) (s : List Stretch) → Listing 0 s (below old new 0)
-unfolding below
-listing_none old new s = (refl, refl)
+pub listing_none : (old new : ℕ → ℕ) (words : List ℕ) → Listing 0 words (below old new 0)
+unfolding below words_of
+listing_none old new words = (refl, refl)
 
-pub listing-same : (n : ℕ) (s l k : List Stretch) → l ≡ k → Listing n s l → Listing n s k
-listing-same n s l k e h = (h.0 ∙ ap length e, h.1 ∙ e)
+pub listing-same : (n : ℕ) (words : List ℕ) (l k : List Stretch) → l ≡ k → Listing n words l → Listing n words k
+listing-same n words l k e h = (h.0 ∙ ap length e, h.1 ∙ ap words_of e)

@@ -1,5 +1,6 @@
 -- Stretches of addresses at which two images differ (paper 02, C-18). An image is a value for each address.
 pub mod Words
+pub mod Records
 use Rattle.std.specs.Prelude.{Bool, true, false, not, ◌&&◌, List, [], ◌∷◌, ℕ, zero, suc, ◌+◌, ◌≤◌, leb, eqb, if◌then◌else◌}
 
 -- "first and last address", with the "old and new first byte"

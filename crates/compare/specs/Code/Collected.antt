@@ -3,7 +3,7 @@ use Rattle.std.specs.Prelude.{◌≡◌, List, map, ℕ, ◌+◌, ◌-◌, ◌�
 use Rattle.std.proofs.Common.{sym, arith}
 use Rattle.stretches.specs.Stretches.{Stretch, add, below}
 use Rattle.stretches.proofs.StretchesLaws.{longer, block}
-use Rattle.stretches.proofs.StretchesWordsLaws.{listing_none, listing-same}
+use Rattle.stretches.proofs.StretchesRecordsLaws.{recorded_none, recorded-same}
 use Rattle.compare.specs.declared.block.Block.{Block}
 use Rattle.compare.specs.declared.listing.Listing.{Listing}
 use Rattle.compare.specs.Compare.{most_stretches}
@@ -25,7 +25,7 @@ module _ (g : Listing) (old new : ℕ → ℕ) where
   collected-none h =
       record {
         most = omega arith;
-        listing = λ i. rw h (listing_none old new (map stretch_is g.stretches));
+        listing = λ i. rw h (recorded_none old new (map stretch_is g.stretches));
         many = λ i. absurd (omega arith);
       }
 
@@ -49,5 +49,5 @@ module _ (g : Listing) (old new : ℕ → ℕ) where
       → ((l : List Stretch) → Listed g l → Listed longer-list (with_block x b l)) → Collected longer-list old new b.end
   collected-block x b longer-list few c h e f a m l =
       let s = block old new x b.end b.old b.new h e f a in
-      let i = listing-same longer-list.count (map stretch_is longer-list.stretches) _ _ (sym s) (l (below old new x) (c.listing few)) in
+      let i = recorded-same longer-list.count (map stretch_is longer-list.stretches) _ _ (sym s) (l (below old new x) (c.listing few)) in
       record { most = omega arith; listing = λ j. i; many = λ j. omega (arith, i.0) }

@@ -1,7 +1,7 @@
 -- The code's list of stretches.
 use Rattle.std.specs.Prelude.{List, ◌-◌, map, get_or}
 use Rattle.stretches.specs.Stretches.{Stretch}
-use Rattle.stretches.specs.Stretches.Words as words
+use Rattle.stretches.specs.Stretches.Records.{Recorded}
 use Rattle.compare.specs.declared.listing.Stretch as CodeStretch
 use Rattle.compare.specs.declared.listing.Listing.{Listing}
 
@@ -14,4 +14,4 @@ last_listed g = get_or g.stretches (g.count - 1) (record { first = 0; last = 0; 
 
 -- the stretches that are listed are l
 abbrev pub Listed : Listing → List Stretch → Type 0
-Listed g l = words.Listing g.count (map stretch_is g.stretches) l
+Listed g l = Recorded g.count (map stretch_is g.stretches) l
