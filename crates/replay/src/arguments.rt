@@ -1,5 +1,5 @@
 // The arguments of a line, one after the other.
-use crate::bytes;
+use crate::bytes::{self, Bytes};
 use crate::scan::{decimal, split_once};
 use receiver_bytes::layout::RECEIVER;
 use std::str::FromStr;
@@ -30,14 +30,14 @@ impl<'a> Arguments<'a> {
     }
 
     // A byte string. Where it is the last call's, the bytes stay.
-    pub fn bytes(&mut self, bytes: &mut Vec<u8>) -> Option<()> {
+    pub fn bytes(&mut self, bytes: &mut Bytes) -> Option<()> {
         bytes::read(bytes, self.next()?)
     }
 
     // A flood-fill receiver: a table of its length.
-    pub fn receiver(&mut self, table: &mut Vec<u8>) -> Option<()> {
+    pub fn receiver(&mut self, table: &mut Bytes) -> Option<()> {
         self.bytes(table)?;
-        (table.len() == RECEIVER).then_some(())
+        (table.as_slice().len() == RECEIVER).then_some(())
     }
 
     pub fn number<N: FromStr>(&mut self) -> Option<N>

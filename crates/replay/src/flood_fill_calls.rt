@@ -14,11 +14,11 @@ pub(crate) fn left<R: Print, F: FnOnce(&mut [u8; RECEIVER], &mut [u8], &mut [u64
     requires { F.IsAlwaysCallable call }
 {
     // a table of another length was refused where it was read
-    let Some(receiver) = buffers.table.as_mut_array::<RECEIVER>() else {
+    let Some(receiver) = buffers.table.as_mut_slice().as_mut_array::<RECEIVER>() else {
         return Ok(());
     };
     let mut outcome = [0; 8];
-    let number = call(receiver, &mut buffers.memory, &mut outcome);
+    let number = call(receiver, buffers.memory.as_mut_slice(), &mut outcome);
     println!(rt; "{}\n{}", Answer { number, outcome }, Hex(receiver))
 }
 
@@ -26,5 +26,5 @@ pub(crate) fn block_end<R: Print>(rt: &R, buffers: &mut Buffers, block: u32) -> 
     left(rt, buffers, |receiver, image, outcome| {
         reidhintsje_flood_fill_block_end(receiver, image, block, outcome)
     })?;
-    rt.println(Hex(&buffers.memory))
+    rt.println(Hex(buffers.memory.as_slice()))
 }

@@ -40,8 +40,8 @@ fn answer<R: Print>(rt: &R, line: Line, buffers: &mut Buffers) -> io::Result<()>
 }
 
 // Whether every line was one that asks something. Ends at the first that is not, and writes its number.
-pub(crate) fn all<R: Print + AllocGlobal>(rt: &R, text: &[u8]) -> io::Result<bool> {
-    let mut buffers = Buffers::new(rt.alloc())?;
+pub(crate) fn all<R: Print>(rt: &R, text: &[u8]) -> io::Result<bool> {
+    let mut buffers = Buffers::new();
     for (index, line) in text.split(|byte| *byte == b'\n').enumerate() {
         match asked(line, &mut buffers) {
             Some(line) => answer(rt, line, &mut buffers)?,

@@ -22,7 +22,7 @@ mod output; // what is written
 const MOST_BYTES: usize = 1048576;
 
 // Whether the text of a file was replayed to its end.
-fn replayed<R: Print + AllocGlobal>(rt: &R, text: &[u8]) -> io::Result<bool> {
+fn replayed<R: Print>(rt: &R, text: &[u8]) -> io::Result<bool> {
     if text.is_empty() {
         println!(rt; "a file is empty, or was not found")?;
         return Ok(false);
@@ -41,7 +41,7 @@ fn room() -> [u8; MOST_BYTES]
     [0; MOST_BYTES]
 }
 
-fn file<R: Files + Print + AllocGlobal>(rt: &R, name: &str) -> io::Result<bool> {
+fn file<R: Files + Print>(rt: &R, name: &str) -> io::Result<bool> {
     let mut text = room();
     let end = file_bytes::read_file(rt, name, &mut text);
     replayed(rt, &text[..end])
