@@ -1,10 +1,10 @@
 // One packet.
-ghost use Rattle.std.specs.Prelude.{◌≡◌, true, ◌≤◌, length};
-ghost use Rattle.memory_map.specs.Map.{sound};
+ghost use Rattle.std.specs.Prelude.{◌≡◌, ◌≤◌, length};
 ghost use Rattle.memory_map.specs.Lookup.{lookup};
 ghost use Rattle.scp.specs.Answer.{answered, command, scp_answer};
 ghost use Rattle.scp.specs.Code.{reply_of, answered_of};
 
+use crate::board::Board;
 use crate::reply::{coded, version};
 use memory_map::map::Map;
 use outcome::answer::Entry;
@@ -34,21 +34,21 @@ pub enum Reply {
 // What a packet of at least 4 bytes commands. An error is answered by its return code alone, as is a plain `Okay`.
 #[tactic(auto, unfolding(crate::specs::Answer::command))]
 fn command(
-    map: Map,
-    memory: &mut [u8],
+    board: &mut Board,
     identity: Identity,
     packet: &[u8],
     output: &mut [u8],
 ) -> Result<Reply, ReturnCode>
-    requires { (4 ≤ length packet.now) × (272 ≤ length output.old) × (sound map (length memory.old) ≡ true) }
-    ensures { answered_of result packet.now memory.new output.new ≡ answered (command (lookup map) identity packet.now memory.old) output.old }
+    requires { (4 ≤ length packet.now) × (272 ≤ length output.old) }
+    ensures same_reference { board.new.memory.ghost_name ≡ board.old.memory.ghost_name }
+    ensures outcome { answered_of result packet.now board.new.memory.now output.new ≡ answered (command (lookup board.old.map) identity packet.now board.old.memory.now) output.old }
 {
     match words::read::le_half(packet) {
         0 => Ok(version(identity, packet, output)),
-        1 => crate::run::run(map, packet),
-        2 => crate::transfer::read(map, memory, packet, output),
-        3 => crate::transfer::write(map, memory, packet),
-        4 => crate::run::load(map, memory, packet),
+        1 => crate::run::run(board.map, packet),
+        2 => crate::transfer::read(board, packet, output),
+        3 => crate::transfer::write(board, packet),
+        4 => crate::run::load(board, packet),
         _ => Err(ReturnCode::BadCommand),
     }
 }
@@ -76,7 +76,8 @@ pub fn answer(
     if packet.len() > 272 {
         return Ok(coded(ReturnCode::BadLength, packet, output));
     }
-    match command(map, memory, identity, packet, output) {
+    let mut board = Board { map, memory };
+    match command(&mut board, identity, packet, output) {
         Ok(reply) => Ok(reply),
         Err(code) => Ok(coded(code, packet, output)),
     }

@@ -1,11 +1,11 @@
 // RUN and APLX.
-ghost use Rattle.std.specs.Prelude.{◌≡◌, true, List, ℕ, length};
-ghost use Rattle.memory_map.specs.Map.{sound};
+ghost use Rattle.std.specs.Prelude.{◌≡◌, List, ℕ};
 ghost use Rattle.memory_map.specs.Lookup.{lookup};
 ghost use Rattle.scp.specs.Answer.{run_packet, load_packet, answered};
 ghost use Rattle.scp.specs.Code.{answered_of};
 
 use crate::answer::Reply;
+use crate::board::Board;
 use memory_map::map::Map;
 use outcome::answer::Stop;
 use scp_packet::packet::ReturnCode;
@@ -27,14 +27,14 @@ pub(crate) fn run(map: Map, packet: &[u8]) -> Result<Reply, ReturnCode>
 
 // An APLX packet.
 #[tactic(auto, unfolding(crate::specs::Answer::load_packet), using(crate::proofs::AnswerLaws::no_response))]
-pub(crate) fn load(map: Map, memory: &mut [u8], packet: &[u8]) -> Result<Reply, ReturnCode>
-    requires { sound map (length memory.old) ≡ true }
-    ensures { (o : List ℕ) → answered_of result packet.now memory.new o ≡ answered (load_packet (lookup map) packet.now memory.old) o }
+pub(crate) fn load(board: &mut Board, packet: &[u8]) -> Result<Reply, ReturnCode>
+    ensures same_reference { board.new.memory.ghost_name ≡ board.old.memory.ghost_name }
+    ensures outcome { (o : List ℕ) → answered_of result packet.now board.new.memory.now o ≡ answered (load_packet (lookup board.old.map) packet.now board.old.memory.now) o }
 {
     if packet.len() < 8 {
         return Err(ReturnCode::BadLength);
     }
-    let Ok(load) = aplx::load::load(map, memory, le_word_at(packet, 4)) else {
+    let Ok(load) = aplx::load::load(board.map, board.memory, le_word_at(packet, 4)) else {
         return Err(ReturnCode::BadArgument);
     };
     match load.stop {

@@ -15,13 +15,13 @@ use Rattle.scp.proofs.run.load.Goals.{In-Ok}
 -- what the packet comes to where the load was accepted
 told :
     (c : In-Ok) → let l = c.in-Ok.load in
-    load_packet (lookup c.args.map) c.args.packet.now c.args.memory.now
+    load_packet (lookup c.args.board.now.map) c.args.packet.now c.args.board.now.memory.now
     ≡ load_reaction (accepted (stop_of l.stop) l.taken l.stored) c.args.packet.now c.load.new.memory
 unfolding load_packet
 told c =
     let x = c.args in
     let l = rw c.le_word_at.ensures at c.in-Ok.ensures in
-    simp (le-ltb (length x.packet.now) 8 (omega arith), sym (sound-load x.map x.memory.now (arg1 x.packet.now) c.requires), sym l)
+    simp (le-ltb (length x.packet.now) 8 (omega arith), sym (sound-load x.board.now.map x.board.now.memory.now (arg1 x.packet.now) x.board.now.is_sound), sym l)
 
 -- a stop that is no run
 plain :
@@ -30,15 +30,15 @@ plain :
 plain x t b s m (inl e) = simp e.1
 plain x t b s m (inr e) = simp e.2
 
-pub returns-in_default : goal.returns-in_default
+pub returns-in_default-clause-outcome : goal.returns-in_default-clause-outcome
 unfolding load_packet
-returns-in_default c = λ (o : List ℕ). let x = c.args in
+returns-in_default-clause-outcome c = λ (o : List ℕ). let x = c.args in
     let l = rw c.le_word_at.ensures at c.in_default.ensures in
-    simp (le-ltb (length x.packet.now) 8 (omega arith), sym (sound-load x.map x.memory.now (arg1 x.packet.now) c.requires), sym l)
+    simp (le-ltb (length x.packet.now) 8 (omega arith), sym (sound-load x.board.now.map x.board.now.memory.now (arg1 x.packet.now) x.board.now.is_sound), sym l)
 
-pub returns-in-Run : goal.returns-in-Run
-returns-in-Run c = λ (o : List ℕ). simp (told (goal.at.returns-in-Run c).In-Ok, c.in-Run.is, store-nil)
+pub returns-in-Run-clause-outcome : goal.returns-in-Run-clause-outcome
+returns-in-Run-clause-outcome c = λ (o : List ℕ). simp (told (goal.at.returns-in-Run-clause-outcome c).In-Ok, c.in-Run.is, store-nil)
 
-pub returns-in-End : goal.returns-in-End
-returns-in-End c = λ (o : List ℕ). let l = c.in-Ok.load in
-    simp (told (goal.at.returns-in-End c).In-Ok, plain l.stop l.taken l.stored c.args.packet.now c.load.new.memory c.in-End.is)
+pub returns-in-End-clause-outcome : goal.returns-in-End-clause-outcome
+returns-in-End-clause-outcome c = λ (o : List ℕ). let l = c.in-Ok.load in
+    simp (told (goal.at.returns-in-End-clause-outcome c).In-Ok, plain l.stop l.taken l.stored c.args.packet.now c.load.new.memory c.in-End.is)

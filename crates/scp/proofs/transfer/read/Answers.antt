@@ -11,12 +11,12 @@ use Rattle.scp.proofs.transfer.read.Goals as goal
 use Rattle.scp.proofs.transfer.read.Goals.{In-Ok}
 
 -- the place of the range
-placed : (c : In-Ok) → lookup c.args.map Read (arg1 c.args.packet.now) (arg2 c.args.packet.now) ≡ at c.in-Ok.place
+placed : (c : In-Ok) → lookup c.args.board.now.map Read (arg1 c.args.packet.now) (arg2 c.args.packet.now) ≡ at c.in-Ok.place
 placed c = rw (c.le_word_at-address.ensures, c.le_word_at-size.ensures) at (sym c.in-Ok.ensures)
 
 -- it lies in memory
-inside : (c : In-Ok) → c.in-Ok.place + arg2 c.args.packet.now ≤ length c.args.memory.now
-inside c = (lawful c.args.map (length c.args.memory.now) c.requires.2).inside Read _ _ _ (placed c)
+inside : (c : In-Ok) → c.in-Ok.place + arg2 c.args.packet.now ≤ length c.args.board.now.memory.now
+inside c = (lawful c.args.board.now.map (length c.args.board.now.memory.now) c.args.board.now.is_sound).inside Read _ _ _ (placed c)
 
 pub overflow_add-end : goal.overflow_add-end
 overflow_add-end c = omega (arith, inside c)
@@ -34,4 +34,4 @@ returns c = let x = c.args in
     let m = moved false x.packet.now (sym c.in_ok-judge.ensures) in
     let e = rw (q, c.coded.ensures.output_after) at c.bytes.ensures in
     rw c.le_word_at-size.ensures
-    (data-return x.packet.now x.memory.now x.output.now (omega arith) p n (inside k) (omega (arith, m.small)) (simp (sym c.in_ok-judge.ensures, placed k)) e)
+    (data-return x.packet.now x.board.now.memory.now x.output.now (omega arith) p n (inside k) (omega (arith, m.small)) (simp (sym c.in_ok-judge.ensures, placed k)) e)

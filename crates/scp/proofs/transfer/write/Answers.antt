@@ -15,12 +15,12 @@ slice_bounds-bytes-count c = (moved true c.args.packet.now (sym c.in_ok-judge.en
 pub slice_bounds-bytes-start : goal.slice_bounds-bytes-start
 slice_bounds-bytes-start c = (moved true c.args.packet.now (sym c.in_ok-judge.ensures)).long
 
-pub returns : goal.returns
+pub returns-clause-outcome : goal.returns-clause-outcome
 unfolding write_packet
-returns c = λ (o : List ℕ). let x = c.args in
+returns-clause-outcome c = λ (o : List ℕ). let x = c.args in
     let s = x.packet.now in
     let p = c.in-Ok.place in
-    let f : lookup x.map Write (arg1 s) (arg2 s) ≡ at p = rw (c.le_word_at-address.ensures, c.le_word_at-size.ensures) at (sym c.in-Ok.ensures) in
-    let i = (lawful x.map (length x.memory.now) c.requires).inside Write _ _ _ f in
+    let f : lookup x.board.now.map Write (arg1 s) (arg2 s) ≡ at p = rw (c.le_word_at-address.ensures, c.le_word_at-size.ensures) at (sym c.in-Ok.ensures) in
+    let i = (lawful x.board.now.map (length x.board.now.memory.now) x.board.now.is_sound).inside Write _ _ _ f in
     let m = moved true s (sym c.in_ok-judge.ensures) in
-    simp (sym c.in_ok-judge.ensures, f, c.bytes.ensures ∙ data-stored s x.memory.now p (arg2 s) (m.whole refl) i)
+    simp (sym c.in_ok-judge.ensures, f, c.bytes.ensures ∙ data-stored s x.board.now.memory.now p (arg2 s) (m.whole refl) i)
