@@ -7,7 +7,7 @@ ghost use Rattle.srom.specs.Walk.{run_of, data_block, block_at, item_at, walk, p
 ghost use Rattle.srom.specs.Load.{outcome_of_walk};
 ghost use Rattle.srom.specs.Code.{item_of, block_of};
 
-use memory_map::map::Map;
+use crate::rom::Rom;
 use memory_region::region::Right;
 use outcome::answer::{Load, Stop};
 use outcome::refusal::{Cause, Refusal};
@@ -46,30 +46,30 @@ pub(crate) fn pads_end(s: &[u8], offset: usize) -> usize
 }
 
 // A block without data, at an offset: a run.
-fn run_item(map: Map, at: usize, address: u32) -> Result<Item, Cause>
-    requires { at + 7 ≤ 16777216 }
-    ensures { block_of at result ≡ run_of (run_entry (lookup map) address) at }
+fn run_item(rom: &Rom, at: usize, address: u32) -> Result<Item, Cause>
+    requires { at + 7 ≤ length rom.now.bytes.now }
+    ensures { block_of at result ≡ run_of (run_entry (lookup rom.now.map) address) at }
 {
-    let entry = map.run_entry(address)?;
+    let entry = rom.map.run_entry(address)?;
     let resume = (at + 7) as u32;
     Ok(Item::Halt(Stop::Run { entry, resume }))
 }
 
 // A block of so many words for an address, at an offset.
 #[tactic(auto, unfolding(crate::specs::Walk::data_block))]
-fn data_item(map: Map, s: &[u8], at: usize, words: u16, address: u32) -> Result<Item, Cause>
-    requires { (at + 7 ≤ length s.now) × (length s.now ≤ 16777216) }
-    ensures { block_of at result ≡ data_block (lookup map) s.now at words address }
+fn data_item(rom: &Rom, at: usize, words: u16, address: u32) -> Result<Item, Cause>
+    requires { at + 7 ≤ length rom.now.bytes.now }
+    ensures { block_of at result ≡ data_block (lookup rom.now.map) rom.now.bytes.now at words address }
 {
     if address % 4 != 0 {
         return Err(Cause::NotAligned);
     }
     let from = at + 7;
     let size = 4 * (words as usize);
-    if s.len() - from < size {
+    if rom.bytes.len() - from < size {
         return Err(Cause::CutShort);
     }
-    let place = map.lookup(Right::Write, address, size as u64)?;
+    let place = rom.map.lookup(Right::Write, address, size as u64)?;
     Ok(Item::Block {
         address,
         place,
@@ -80,34 +80,34 @@ fn data_item(map: Map, s: &[u8], at: usize, words: u16, address: u32) -> Result<
 
 // The block whose start byte is at an offset. A refusal of it has that place.
 #[tactic(auto, unfolding(crate::specs::Walk::block_at))]
-fn block_item(map: Map, s: &[u8], at: usize) -> Result<Item, Cause>
-    requires { (at < length s.now) × (length s.now ≤ 16777216) }
-    ensures { block_of at result ≡ block_at (lookup map) s.now at }
+fn block_item(rom: &Rom, at: usize) -> Result<Item, Cause>
+    requires { at < length rom.now.bytes.now }
+    ensures { block_of at result ≡ block_at (lookup rom.now.map) rom.now.bytes.now at }
 {
-    if s.len() - at < 7 {
+    if rom.bytes.len() - at < 7 {
         return Err(Cause::CutShort);
     }
     let length = at + 1;
     let address = at + 3;
-    let n = words::read::be_half(&s[length..]);
-    let a = words::read::be_word(&s[address..]);
+    let n = words::read::be_half(&rom.bytes[length..]);
+    let a = words::read::be_word(&rom.bytes[address..]);
     if n == 0 {
-        return run_item(map, at, a);
+        return run_item(rom, at, a);
     }
-    data_item(map, s, at, n, a)
+    data_item(rom, at, n, a)
 }
 
 // The item at an offset where no pad stands.
 #[tactic(auto, unfolding(crate::specs::Walk::item_at))]
-fn item_at(map: Map, s: &[u8], at: usize) -> Result<Item, Refusal>
-    requires { (length s.now ≤ 16777216) × (at < length s.now → get_or s.now at 0 ≡ 0x55 → ⊥) }
-    ensures { item_of result ≡ item_at (lookup map) s.now at }
+fn item_at(rom: &Rom, at: usize) -> Result<Item, Refusal>
+    requires { at < length rom.now.bytes.now → get_or rom.now.bytes.now at 0 ≡ 0x55 → ⊥ }
+    ensures { item_of result ≡ item_at (lookup rom.now.map) rom.now.bytes.now at }
 {
-    if at >= s.len() {
-        return Err(Cause::CutShort.at(s.len()));
+    if at >= rom.bytes.len() {
+        return Err(Cause::CutShort.at(rom.bytes.len()));
     }
-    if s[at] == START {
-        return match block_item(map, s, at) {
+    if rom.bytes[at] == START {
+        return match block_item(rom, at) {
             Ok(item) => Ok(item),
             Err(cause) => Err(cause.at(at)),
         };
@@ -116,23 +116,21 @@ fn item_at(map: Map, s: &[u8], at: usize) -> Result<Item, Refusal>
 }
 
 // The first item from an offset on that is no pad.
-pub(crate) fn next_item(map: Map, s: &[u8], offset: usize) -> Result<Item, Refusal>
-    requires { length s.now ≤ 16777216 }
-    ensures { item_of result ≡ item_at (lookup map) s.now (pads_end s.now offset) }
+pub(crate) fn next_item(rom: &Rom, offset: usize) -> Result<Item, Refusal>
+    ensures { item_of result ≡ item_at (lookup rom.now.map) rom.now.bytes.now (pads_end rom.now.bytes.now offset) }
 {
-    item_at(map, s, pads_end(s, offset))
+    item_at(rom, pads_end(rom.bytes, offset))
 }
 
 // The walk from an offset to the stop, with the blocks and bytes on the way counted.
-pub(crate) fn walk_blocks(map: Map, s: &[u8], offset: usize) -> Result<Load, Refusal>
-    requires { length s.now ≤ 16777216 }
-    ensures { outcome_of result ≡ outcome_of_walk (walk (lookup map) s.now offset) }
+pub(crate) fn walk_blocks(rom: &Rom, offset: usize) -> Result<Load, Refusal>
+    ensures { outcome_of result ≡ outcome_of_walk (walk (lookup rom.now.map) rom.now.bytes.now offset) }
 {
     let mut next = offset;
     let mut taken: usize = 0;
     let mut stored: u64 = 0;
     loop {
-        match next_item(map, s, next)? {
+        match next_item(rom, next)? {
             Item::Block { from, to, .. } => {
                 taken += 1;
                 stored += (to - from) as u64;

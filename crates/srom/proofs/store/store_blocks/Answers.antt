@@ -19,24 +19,24 @@ use Rattle.srom.proofs.store.store_blocks.Goals.{In-Block}
 block-there : (c : In-Block)
     → let x = c.args in
     let b = c.in-Block in
-    item_at (lookup x.map) x.s.now (pads_end x.s.now c.loop-item.next) ≡ block b.address b.place b.from b.to
+    item_at (lookup x.rom.now.map) x.rom.now.bytes.now (pads_end x.rom.now.bytes.now c.loop-item.next) ≡ block b.address b.place b.from b.to
 block-there c = sym c.in-Ok.ensures ∙ ap (λ (i : code.Item). item_of (Ok i)) c.in-Block.is
 
 there : (c : In-Block)
     → let x = c.args in
     let b = c.in-Block in
-    Located (lookup x.map) x.s.now c.loop-item.next b.address b.place b.from b.to
+    Located (lookup x.rom.now.map) x.rom.now.bytes.now c.loop-item.next b.address b.place b.from b.to
 there c =
     let x = c.args in
     let b = c.in-Block in
-    located (lookup x.map) x.s.now _ b.address b.place b.from b.to (block-there c)
+    located (lookup x.rom.now.map) x.rom.now.bytes.now _ b.address b.place b.from b.to (block-there c)
 
 -- its range ends inside memory
 inside : (c : In-Block)
     → c.in-Block.place + (c.in-Block.to - c.in-Block.from) ≤ length c.loop-item.memory
 inside c =
     let b = c.in-Block in
-    let h = (lawful c.args.map (length c.args.memory.now) c.requires.1).inside Write b.address _ b.place (there c).facts.found in
+    let h = (lawful c.args.rom.now.map (length c.args.memory.now) c.requires).inside Write b.address _ b.place (there c).facts.found in
     let g = c.loop-item.invariant.1 in
     omega (arith, h, g)
 
@@ -57,18 +57,18 @@ loop-item-preserved c = let x = c.args in
     let n = c.loop-item in
     let i = (goal.at.loop-item-preserved c).In-Block in
     let b = c.in-Block in
-    let w = (block_in x.s.now b.address b.place b.from b.to).bytes in
+    let w = (block_in x.rom.now.bytes.now b.address b.place b.from b.to).bytes in
     let stored = c.put.ensures ∙ store-fits n.memory b.place w (rw (there i).facts.size (inside i)) in (
-      rw stored (sym (stores-on (lookup x.map) x.s.now n.next n.memory (block-there i)) ∙ n.invariant.0),
+      rw stored (sym (stores-on (lookup x.rom.now.map) x.rom.now.bytes.now n.next n.memory (block-there i)) ∙ n.invariant.0),
       rw stored (length-store n.memory b.place w (rw (there i).facts.size (inside i)) ∙ n.invariant.1),
     )
 
 pub returns-in_default-item : goal.returns-in_default-item
 returns-in_default-item c = let x = c.args in
     let n = c.loop-item in
-    sym (stores-end (lookup x.map) x.s.now n.next n.memory (sym c.in-Ok.ensures ∙ ap (λ (i : code.Item). item_of (Ok i)) c.in_default-item.is)) ∙ n.invariant.0
+    sym (stores-end (lookup x.rom.now.map) x.rom.now.bytes.now n.next n.memory (sym c.in-Ok.ensures ∙ ap (λ (i : code.Item). item_of (Ok i)) c.in_default-item.is)) ∙ n.invariant.0
 
 pub returns : goal.returns
 returns c = let x = c.args in
     let n = c.loop-item in
-    sym (stores-end (lookup x.map) x.s.now n.next n.memory (sym c.in_default.ensures)) ∙ n.invariant.0
+    sym (stores-end (lookup x.rom.now.map) x.rom.now.bytes.now n.next n.memory (sym c.in_default.ensures)) ∙ n.invariant.0

@@ -7,7 +7,7 @@ use Rattle.memory_map.specs.Lookup.{lookup}
 use Rattle.srom.proofs.store.store_blocks.Given as goal
 
 abbrev pub invariant-loop-item : goal.invariant-loop-item
-invariant-loop-item l = (store_blocks (walk (lookup l.map) l.s l.next).blocks l.memory ≡ store_blocks (walk (lookup l.map) l.s l.offset).blocks l.initial.memory) × (length l.memory ≡ length l.initial.memory)
+invariant-loop-item l = (store_blocks (walk (lookup l.rom.map) l.rom.bytes.now l.next).blocks l.memory ≡ store_blocks (walk (lookup l.rom.map) l.rom.bytes.now l.offset).blocks l.initial.memory) × (length l.memory ≡ length l.initial.memory)
 
 abbrev pub decreases-loop-item : goal.decreases-loop-item
-decreases-loop-item l = length l.s - l.next
+decreases-loop-item l = length l.rom.bytes.now - l.next

@@ -1,7 +1,6 @@
 -- `srom::walk::next_item` meets its contract: no pad stands where the pads end.
-use native.Mathlib.Omega.{arith}
 use Rattle.srom.proofs.WalkLaws.{pads-end-other}
 use Rattle.srom.proofs.walk.next_item.Goals as goal
 
 pub item_at-requires : goal.item_at-requires
-item_at-requires c = let x = c.args in (omega arith, rw c.pads_end.ensures (pads-end-other x.s.now x.offset))
+item_at-requires c = let x = c.args in rw c.pads_end.ensures (pads-end-other x.rom.now.bytes.now x.offset)

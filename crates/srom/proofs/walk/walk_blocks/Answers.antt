@@ -15,17 +15,17 @@ use Rattle.std.proofs.lemmas.Result.{err_from_is_err_and}
 block-there : (c : In-Block)
     → let x = c.args in
     let b = c.in-Block in
-    item_at (lookup x.map) x.s.now (pads_end x.s.now c.loop-from.next) ≡ block b.address b.place b.from b.to
+    item_at (lookup x.rom.now.map) x.rom.now.bytes.now (pads_end x.rom.now.bytes.now c.loop-from.next) ≡ block b.address b.place b.from b.to
 block-there c = sym c.in_ok-from.ensures ∙ ap (λ (i : code.Item). item_of (Ok i)) c.in-Block.is
 
 there : (c : In-Block)
     → let x = c.args in
     let b = c.in-Block in
-    Located (lookup x.map) x.s.now c.loop-from.next b.address b.place b.from b.to
+    Located (lookup x.rom.now.map) x.rom.now.bytes.now c.loop-from.next b.address b.place b.from b.to
 there c =
     let x = c.args in
     let b = c.in-Block in
-    located (lookup x.map) x.s.now _ b.address b.place b.from b.to (block-there c)
+    located (lookup x.rom.now.map) x.rom.now.bytes.now _ b.address b.place b.from b.to (block-there c)
 
 pub overflow_add-taken : goal.overflow_add-taken
 overflow_add-taken c = omega (arith, there c, (there c).facts)
@@ -42,7 +42,7 @@ loop-from-smaller c = omega (arith, there c, (there c).facts)
 pub loop-from-preserved : goal.loop-from-preserved
 loop-from-preserved c = let x = c.args in
     let l = c.loop-from in (
-      sym (counts-on (lookup x.map) x.s.now l.next l.taken l.stored (block-there c)) ∙ l.invariant.0,
+      sym (counts-on (lookup x.rom.now.map) x.rom.now.bytes.now l.next l.taken l.stored (block-there c)) ∙ l.invariant.0,
       omega (arith, there c, (there c).facts),
       omega (arith, there c, (there c).facts),
     )
@@ -50,10 +50,10 @@ loop-from-preserved c = let x = c.args in
 pub returns-in-Halt : goal.returns-in-Halt
 returns-in-Halt c = let x = c.args in
     let l = c.loop-from in
-    sym (counts_end (lookup x.map) x.s.now l.next l.taken l.stored (sym c.in_ok-from.ensures ∙ ap (λ (i : code.Item). item_of (Ok i)) c.in-Halt.is)) ∙ l.invariant.0
+    sym (counts_end (lookup x.rom.now.map) x.rom.now.bytes.now l.next l.taken l.stored (sym c.in_ok-from.ensures ∙ ap (λ (i : code.Item). item_of (Ok i)) c.in-Halt.is)) ∙ l.invariant.0
 
 pub returns-in_err-from : goal.returns-in_err-from
 returns-in_err-from c = let x = c.args in
     let l = c.loop-from in
     let p = err_from_is_err_and c.from_residual.result c.from_residual.ensures.1 in
-    rw (p.1, p.2) (sym (counts_end (lookup x.map) x.s.now l.next l.taken l.stored (sym c.in_err-from.ensures)) ∙ l.invariant.0)
+    rw (p.1, p.2) (sym (counts_end (lookup x.rom.now.map) x.rom.now.bytes.now l.next l.taken l.stored (sym c.in_err-from.ensures)) ∙ l.invariant.0)
