@@ -89,8 +89,7 @@ impl Listing {
         requires { (stretch_size * most_stretches ≤ length output.old) × (self.now.count ≤ most_stretches) }
         ensures { (l : List definition.Stretch) → Listed self.now l → output.new ≡ store output.old 0 (stretch_bytes l) }
     {
-        for i in 0..self.count {
-            let stretch = self.stretches[i];
+        for (i, stretch) in self.stretches[..self.count].iter().enumerate() {
             words::four::put(
                 output,
                 STRETCH_SIZE * i,

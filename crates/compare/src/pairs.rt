@@ -53,11 +53,10 @@ pub(crate) fn alike<F: Fn(usize) -> u8, G: Fn(usize) -> u8>(
         }
         k += PAIRS;
     }
-    while k < size {
-        if (old(k) == new(k)) != same {
-            return k;
+    for j in k..size {
+        if (old(j) == new(j)) != same {
+            return j;
         }
-        k += 1;
     }
-    k
+    size
 }

@@ -20,8 +20,8 @@ fn low_bytes(part: &mut [u8], word: u32)
     ensures { part.new ≡ little_endian (length part.old) word }
 {
     let mut rest = word;
-    for i in 0..part.len() {
-        part[i] = (rest % 256) as u8;
+    for byte in part.iter_mut() {
+        *byte = (rest % 256) as u8;
         rest /= 256;
     }
 }

@@ -4,9 +4,7 @@ use Rattle.compare.specs.Code.Pairs.{Pair}
 use Rattle.compare.proofs.CodeLaws.{beq_same, more}
 use Rattle.compare.proofs.pairs.alike.Goals as goal
 
-pub loop-k-2-preserved : goal.loop-k-2-preserved
-loop-k-2-preserved g c = let x = c.args in
-    let l = c.loop-k-2 in (
-      omega arith,
-      λ y h. more (Pair (goal.F-post g x.old) (goal.G-post g x.new) x.same) 0 l.k (λ z _ f. l.invariant.1 z f) (record { old-byte = c.old.result; new-byte = c.new.result; is-old = c.old.ensures; is-new = c.new.ensures; alike = beq_same _ _ c.if-old-new.false }) y (omega arith) h,
-    )
+pub loop-j-preserved : goal.loop-j-preserved
+loop-j-preserved g c = let x = c.args in
+    let l = c.loop-j in
+    λ y h. more (Pair (goal.F-post g x.old) (goal.G-post g x.new) x.same) 0 l.j (λ z _ f. l.invariant z f) (record { old-byte = c.old.result; new-byte = c.new.result; is-old = c.old.ensures; is-new = c.new.ensures; alike = beq_same _ _ c.if-old-new.false }) y (omega arith) h

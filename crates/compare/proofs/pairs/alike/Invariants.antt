@@ -8,8 +8,5 @@ invariant-loop-k g l = (l.k ≤ l.size) × PairsBelow (goal.F-post g l.old) (goa
 abbrev pub decreases-loop-k : goal.decreases-loop-k
 decreases-loop-k g l = l.size - l.k
 
-abbrev pub invariant-loop-k-2 : goal.invariant-loop-k-2
-invariant-loop-k-2 g l = (l.k ≤ l.size) × PairsBelow (goal.F-post g l.old) (goal.G-post g l.new) l.same l.k
-
-abbrev pub decreases-loop-k-2 : goal.decreases-loop-k-2
-decreases-loop-k-2 g l = l.size - l.k
+abbrev pub invariant-loop-j : goal.invariant-loop-j
+invariant-loop-j g l = PairsBelow (goal.F-post g l.old) (goal.G-post g l.new) l.same l.j

@@ -17,19 +17,19 @@ one_more m n i r h e =
     let k : n - i ≡ suc (n - suc i) = omega arith in
     rw (add-one i, take-suc-set m i (r % 256) (omega arith), k) (append_assoc (take i m) _ _)
 
-pub loop-i-init : goal.loop-i-init
-loop-i-init c = let n = length c.args.part.now in
+pub loop-byte-init : goal.loop-byte-init
+loop-byte-init c = let n = length c.args.part.now in
     let z : n - 0 ≡ n = omega arith in
     rw z
 
-pub loop-i-preserved : goal.loop-i-preserved
-loop-i-preserved c = let l = c.loop-i in
+pub loop-byte-preserved : goal.loop-byte-preserved
+loop-byte-preserved c = let l = c.loop-byte in
     let n = length c.args.part.now in
-    one_more l.part n l.i l.rest (omega arith) (omega arith) ∙ l.invariant
+    one_more l.part n l.byte-index l.rest (omega arith) (omega arith) ∙ l.invariant
 
 pub returns : goal.returns
 unfolding little_endian
-returns c = let l = c.loop-i in
+returns c = let l = c.loop-byte in
     let n = length c.args.part.now in
-    let z : n - l.i ≡ 0 = omega arith in
-    sym (take_all l.i l.part (omega arith)) ∙ sym (append-nil (take l.i l.part)) ∙ rw z at l.invariant
+    let z : n - l.byte-index ≡ 0 = omega arith in
+    sym (take_all l.byte-index l.part (omega arith)) ∙ sym (append-nil (take l.byte-index l.part)) ∙ rw z at l.invariant

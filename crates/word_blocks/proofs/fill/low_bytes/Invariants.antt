@@ -5,5 +5,5 @@ use lib.ListN.{length, take}
 use Rattle.words.specs.Bytes.{little_endian}
 use Rattle.word_blocks.proofs.fill.low_bytes.Given as goal
 
-abbrev pub invariant-loop-i : goal.invariant-loop-i
-invariant-loop-i l = take l.i l.part ++ little_endian (length l.initial.part - l.i) l.rest ≡ little_endian (length l.initial.part) l.word
+abbrev pub invariant-loop-byte : goal.invariant-loop-byte
+invariant-loop-byte l = take l.byte-index l.part ++ little_endian (length l.initial.part - l.byte-index) l.rest ≡ little_endian (length l.initial.part) l.word
