@@ -17,11 +17,6 @@ one_more m n i r h e =
     let k : n - i ≡ suc (n - suc i) = omega arith in
     rw (add-one i, take-suc-set m i (r % 256) (omega arith), k) (append_assoc (take i m) _ _)
 
-pub loop-byte-init : goal.loop-byte-init
-loop-byte-init c = let n = length c.args.part.now in
-    let z : n - 0 ≡ n = omega arith in
-    rw z
-
 pub loop-byte-preserved : goal.loop-byte-preserved
 loop-byte-preserved c = let l = c.loop-byte in
     let n = length c.args.part.now in

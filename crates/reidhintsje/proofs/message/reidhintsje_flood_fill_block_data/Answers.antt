@@ -1,8 +1,0 @@
--- `reidhintsje::message::reidhintsje_flood_fill_block_data` meets its contract: what the receiver answers, as numbers.
-use Rattle.reidhintsje.proofs.CallsLaws.{message-call}
-use Rattle.reidhintsje.proofs.message.reidhintsje_flood_fill_block_data.Goals as goal
-
-pub returns : goal.returns
-returns c = let left = c.block_data-answer.ensures in
-    let g = message-call c.put.ensures c.message_parts.ensures left.result_value in
-    record { value = g.0; outcome_after = g.1; receiver_after = left.bytes_after }
