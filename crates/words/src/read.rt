@@ -3,6 +3,8 @@ ghost use Rattle.std.specs.Prelude.{◌≡◌, ◌+◌, ◌<◌, ◌≤◌, leng
 ghost use Rattle.words.specs.Bytes.{first_bytes, little_endian_at, big_endian_at};
 
 // The first N bytes, of which some are past the end.
+#[cold]
+#[inline(never)]
 fn padded<const N: usize>(s: &[u8]) -> [u8; N]
     requires { length s.now < N }
     ensures { result ≡ first_bytes N s.now }

@@ -10,10 +10,10 @@ use Rattle.words.proofs.put.bytes.Goals as goal
 
 pub returns-then-fits : goal.returns-then-fits
 returns-then-fits c = let x = c.args in
-    let w = c.copy_from_slice in
+    let w = c.copy_all in
     let h = leb-true _ _ (sym c.fits.ensures ∙ c.if-fits.true) in
-    store-part x.s.now x.at (x.at + length x.source.now) w.new.self (omega arith) h w.auto.self
-    ∙ ap (store x.s.now x.at) w.ensures.after
+    store-part x.s.now x.at (x.at + length x.source.now) w.new.part (omega arith) h w.auto.part
+    ∙ ap (store x.s.now x.at) w.ensures
     ∙ sym (store-fits x.s.now x.at x.source.now h)
 
 pub returns-else-fits : goal.returns-else-fits
