@@ -6,27 +6,35 @@ ghost use Rattle.plan.specs.Code.Packer.{outcome_is};
 ghost use Rattle.aplx_pack.specs.Image.{aplx_image, pack_aplx};
 
 use outcome::refusal::Refusal;
-use plan::pack::Packer;
+use plan::pack::{Packer, ReadSource, Reader};
 use plan::piece::{Target, accepted_at, put_length};
 use plan::read::Pieces;
 
+// A plan is packed as its APLX image.
 struct Aplx;
 
-impl Packer for Aplx {
+impl Reader for Aplx {
     ghost reads = { read_plan 32 };
+}
 
+impl Packer for Aplx {
     ghost image = { aplx_image };
 
     fn read(plan: &[u8]) -> Result<Pieces, Refusal> {
         plan::read::read(plan, Target::Aplx)
     }
 
-    fn size(pieces: Pieces) -> usize {
-        16 * (pieces.count + 1) + pieces.puts
+    fn size(read: &ReadSource<'_, Aplx>) -> usize {
+        16 * (read.pieces.count + 1) + read.pieces.puts
     }
 
-    fn write(plan: &[u8], pieces: Pieces, output: &mut [u8]) {
-        let count = pieces.count as u32;
+    #[tactic(auto, unfolding(words::specs::Store::store_if_fits))]
+    fn write(read: &ReadSource<'_, Aplx>, output: &mut [u8]) {
+        if output.len() < Self::size(read) {
+            return;
+        }
+        let plan = read.source;
+        let count = read.pieces.count as u32;
         let mut place: usize = 16 * (count as usize + 1);
         for i in 0..count {
             let piece = accepted_at(plan, Target::Aplx, i);

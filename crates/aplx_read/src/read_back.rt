@@ -8,7 +8,7 @@ ghost use Rattle.aplx_read.specs.ReadBack.{read_image, read_back};
 ghost use Rattle.aplx_read.specs.Code.{with_row};
 
 use outcome::refusal::Refusal;
-use plan::pack::Packer;
+use plan::pack::{Packer, ReadSource, Reader};
 use plan::piece::{Piece, put_length};
 use plan::read::Pieces;
 
@@ -38,23 +38,30 @@ fn write_row(image: &[u8], piece: Piece, output: &mut [u8], at: usize, start: us
 // An image is packed as the plan of its pieces.
 struct PlanOfImage;
 
-impl Packer for PlanOfImage {
+impl Reader for PlanOfImage {
     ghost reads = { read_image };
+}
 
+impl Packer for PlanOfImage {
     ghost image = { plan_bytes };
 
     fn read(image: &[u8]) -> Result<Pieces, Refusal> {
         crate::image::read(image)
     }
 
-    fn size(pieces: Pieces) -> usize {
-        16 * (pieces.count + 1) + pieces.puts
+    fn size(read: &ReadSource<'_, PlanOfImage>) -> usize {
+        16 * (read.pieces.count + 1) + read.pieces.puts
     }
 
-    fn write(image: &[u8], pieces: Pieces, output: &mut [u8]) {
-        let count = pieces.count as u32;
+    #[tactic(auto, unfolding(words::specs::Store::store_if_fits))]
+    fn write(read: &ReadSource<'_, PlanOfImage>, output: &mut [u8]) {
+        if output.len() < Self::size(read) {
+            return;
+        }
+        let image = read.source;
+        let count = read.pieces.count as u32;
         let start: usize = 16 * (count as usize + 1);
-        words::four::put(output, 0, count, 16, start as u32, pieces.puts as u32);
+        words::four::put(output, 0, count, 16, start as u32, read.pieces.puts as u32);
         let mut offset: usize = 0;
         for i in 0..count {
             let piece = crate::entry::accepted_at(image, i);

@@ -6,29 +6,37 @@ ghost use Rattle.plan.specs.Code.Packer.{outcome_is};
 ghost use Rattle.srom_pack.specs.Image.{srom_image, pack_srom};
 
 use outcome::refusal::Refusal;
-use plan::pack::Packer;
+use plan::pack::{Packer, ReadSource, Reader};
 use plan::piece::{Target, accepted_at, fill_length, put_length};
 use plan::read::Pieces;
 
+// A plan is packed as its serial ROM image.
 struct Srom;
 
-impl Packer for Srom {
+impl Reader for Srom {
     ghost reads = { read_plan 4 };
+}
 
+impl Packer for Srom {
     ghost image = { srom_image };
 
     fn read(plan: &[u8]) -> Result<Pieces, Refusal> {
         plan::read::read(plan, Target::Srom)
     }
 
-    fn size(pieces: Pieces) -> usize {
-        2 + 7 * pieces.count + pieces.puts + pieces.fills
+    fn size(read: &ReadSource<'_, Srom>) -> usize {
+        2 + 7 * read.pieces.count + read.pieces.puts + read.pieces.fills
     }
 
-    fn write(plan: &[u8], pieces: Pieces, output: &mut [u8]) {
+    #[tactic(auto, unfolding(words::specs::Store::store_if_fits))]
+    fn write(read: &ReadSource<'_, Srom>, output: &mut [u8]) {
+        if output.len() < Self::size(read) {
+            return;
+        }
         output[0] = 0x55;
+        let plan = read.source;
+        let count = read.pieces.count as u32;
         let mut at: usize = 1;
-        let count = pieces.count as u32;
         for i in 0..count {
             let piece = accepted_at(plan, Target::Srom, i);
             crate::block::write_block(plan, piece, output, at);

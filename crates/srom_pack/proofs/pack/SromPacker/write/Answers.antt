@@ -4,6 +4,7 @@ use mathlib.Core.List.{List}
 use Prim.Native.Nat.{◌+◌, ◌≤◌, ◌<◌}
 use native.Mathlib.Omega.{arith}
 use lib.ListN.{length, set, length-set}
+use Rattle.words.proofs.StoreLaws.{store-fits}
 use Rattle.plan.specs.Plan.{Piece}
 use Rattle.plan.specs.Packed.{plan_pieces}
 use Rattle.plan.specs.Code.{piece_is}
@@ -15,20 +16,20 @@ use Rattle.srom_pack.proofs.pack.SromPacker.write.Goals as goal
 use Rattle.srom_pack.proofs.pack.SromPacker.write.Goals.{After-accepted_at-piece}
 
 pub bounds-output-0 : goal.bounds-output-0
-bounds-output-0 c = omega (arith, block_inside (plan_pieces 4 c.args.plan.now) 0)
+bounds-output-0 c = omega (arith, block_inside (plan_pieces 4 c.args.read.now.source.now) 0)
 
 pub loop-i-init : goal.loop-i-init
 loop-i-init c = let x = c.args in
-    let ps = plan_pieces 4 x.plan.now in
+    let ps = plan_pieces 4 x.read.now.source.now in
     (written_none ps (set x.output.now 0 0x55), (sym (first_block ps), refl))
 
 -- the piece read is the plan's, and its block is inside the output
 module _ (c : After-accepted_at-piece) where
   abbrev ps : List Piece
-  ps = plan_pieces 4 c.args.plan.now
+  ps = plan_pieces 4 c.args.read.now.source.now
 
-  next-piece : Found 4 c.args.plan.now ps c.loop-i.i c.accepted_at-piece.result
-  next-piece = found 4 c.args.plan.now c.type_inv.plan c.requires.0.accepted c.loop-i.i (omega arith) _ c.accepted_at-piece.ensures
+  next-piece : Found 4 c.args.read.now.source.now ps c.loop-i.i c.accepted_at-piece.result
+  next-piece = found 4 c.args.read.now.source.now (λ i. record { fits = c.args.read.now.bytes i }) c.args.read.now.counted.accepted c.loop-i.i (omega arith) _ c.accepted_at-piece.ensures
 
   next-inside : block_at ps (c.loop-i.i + 1) < length c.args.output.now
   next-inside = omega (arith, block_inside ps (c.loop-i.i + 1))
@@ -55,17 +56,18 @@ loop-i-preserved c = let here = (goal.at.loop-i-preserved c).After-accepted_at-p
     let w = c.write_block in
     let m = set x.output.now 0 0x55 in
     let fits : length (srom_image (ps here)) ≤ length m = omega (arith, length-set x.output.now 0 0x55) in
-    let block = block_of (piece_is x.plan.now c.accepted_at-piece.result) in
+    let block = block_of (piece_is x.read.now.source.now c.accepted_at-piece.result) in
     let more : Written (ps here) m w.new.output (i + 1) =
     rw w.ensures (written-more (ps here) m i block fits c.loop-i.invariant.0 c.loop-i.invariant.1.0 (blocks-through n)) in
     (more, (omega (arith, next_place n), length-written (ps here) m (i + 1) fits more))
 
 pub bounds-output-at : goal.bounds-output-at
 bounds-output-at c = let x = c.args in
-    omega (arith, block_inside (plan_pieces 4 x.plan.now) c.loop-i.i, length-set x.output.now 0 0x55)
+    omega (arith, block_inside (plan_pieces 4 x.read.now.source.now) c.loop-i.i, length-set x.output.now 0 0x55)
 
 pub returns : goal.returns
 returns c = let x = c.args in
-    let ps = plan_pieces 4 x.plan.now in
+    let ps = plan_pieces 4 x.read.now.source.now in
+    let fits : length (srom_image ps) ≤ length x.output.now = omega arith in
     let e : c.loop-i.i ≡ length ps = omega arith in
-    rw (c.loop-i.invariant.1.0, e) (written_all ps x.output.now c.loop-i.output c.requires.0.fits (rw e at c.loop-i.invariant.0))
+    rw (c.loop-i.invariant.1.0, e, store-fits x.output.now 0 (srom_image ps) (omega arith)) (written_all ps x.output.now c.loop-i.output fits (rw e at c.loop-i.invariant.0))
