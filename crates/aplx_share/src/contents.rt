@@ -61,7 +61,8 @@ fn place_of(plan: &[u8], contents: &[Content], content: &[u8]) -> usize
     place
 }
 
-// What is kept of a plan with so many pieces.
+// What is kept of a plan with so many pieces. Inline, so that it is made where it is used, and not copied.
+#[inline(always)]
 pub(crate) fn collect(plan: &[u8], pieces: u32) -> Kept
     requires { ReadAs (read_plan 32 plan.now) pieces }
     ensures { Collected plan.now (plan_pieces 32 plan.now) pieces result }
