@@ -86,8 +86,14 @@ fn add_part(bytes: &mut Bytes, part: &[u8]) -> Option<()> {
         Some((digits, times)) => (digits, times_of(times)?),
         None => (part, 1),
     };
-    for _ in 0..times {
-        add_pairs(bytes, digits)?;
+    let from = bytes.length;
+    add_pairs(bytes, digits)?;
+    let end = bytes.length;
+    for _ in 1..times {
+        for i in from..end {
+            let byte = *bytes.bytes.get(i)?;
+            bytes.push(byte)?;
+        }
     }
     Some(())
 }

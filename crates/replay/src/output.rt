@@ -10,7 +10,7 @@ pub(crate) struct Answer {
 
 impl Answer {
     // What a call answers that is lent an outcome.
-    pub fn of<F: FnOnce(&mut [u64; 8]) -> u32>(call: F) -> Answer
+    pub(crate) fn of<F: FnOnce(&mut [u64; 8]) -> u32>(call: F) -> Answer
         requires { F.IsAlwaysCallable call }
     {
         let mut outcome = [0; 8];
